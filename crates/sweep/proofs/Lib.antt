@@ -1,0 +1,3 @@
+-- The laws of `specs/Kept.antt`: `Laws` for any loop that keeps rows, and examples.
+pub mod Laws
+pub mod Examples
