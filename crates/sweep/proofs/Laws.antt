@@ -10,11 +10,11 @@ use lib.ListN.{length, getD, take, drop, replicate, length-take, length-drop, le
 use lib.Seq.{take-all, drop-length, take-length, length-take-le, drop-cons, take-suc}
 use borrow.Author.Tests.{not-true, not-false}
 use Rattle.wire.specs.Bytes.{part, splice, bytes}
-use Rattle.wire.specs.Items.{itemIn}
+use Rattle.wire.specs.Items.{itemIn, flat}
 use Rattle.wire.proofs.Laws.{length-bytes, length-splice, splice-own}
-use Rattle.wire.proofs.Lists.{Sized, none, one, next-mul, gap-mul, below-mul, splice-seam, part-seam, sized-at}
-use Rattle.table.specs.Rows.{countOf, places, shaped, rowsOf, pastOf, flat, packed}
-use Rattle.table.proofs.Laws.{sized-take, length-flat, flat-append, flat-one, IsTable, is-table, Holds, holds-packed, length-packed, After, after, length-past}
+use Rattle.wire.proofs.Lists.{Sized, none, one, next-mul, gap-mul, below-mul, splice-seam, part-seam, sized-at, sized-take, length-flat, flat-append, flat-one}
+use Rattle.table.specs.Rows.{countOf, places, shaped, rowsOf, pastOf, packed}
+use Rattle.table.proofs.Laws.{IsTable, is-table, Holds, holds-packed, length-packed, After, after, length-past}
 use Rattle.sweep.specs.Kept.{keeps, went, kept, moved, counted, finished}
 
 -- ---- the rows that a test keeps

@@ -4,9 +4,9 @@ use mathlib.Core.Bool.{true, false}
 use mathlib.Core.List.{List, [], _∷_}
 use Prim.Native.Nat.{ℕ}
 use Rattle.wire.specs.Bytes.{part, alike, word, bytes}
-use Rattle.wire.specs.Items.{chunks, items, firstOf, hasPart}
+use Rattle.wire.specs.Items.{chunks, items, flat, firstOf, hasPart}
 use Rattle.wire.specs.declared.Found.the-variants.{At, Nothing}
-use Rattle.table.specs.Rows.{countOf, places, shaped, rowsOf, pastOf, flat, packed, appended}
+use Rattle.table.specs.Rows.{countOf, places, shaped, rowsOf, pastOf, packed, appended}
 
 abbrev table : List ℕ
 table = 3 ∷ 0 ∷ 0 ∷ 0 ∷ 0 ∷ 0 ∷ 0 ∷ 0 ∷ 7 ∷ 0 ∷ 0 ∷ 0 ∷ 41 ∷ 6 ∷ 0 ∷ 0 ∷ 0 ∷ 42 ∷ 9 ∷ 0 ∷ 0 ∷ 0 ∷ 43 ∷ 5 ∷ 5 ∷ 5 ∷ 5 ∷ 5 ∷ []

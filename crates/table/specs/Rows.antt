@@ -6,7 +6,7 @@ use mathlib.Core.List.{List, [], _∷_, _++_}
 use lib.ListN.{length, take, drop, set}
 use lib.Dec.{eqb, ltb, leb}
 use Rattle.wire.specs.Bytes.{part, word, bytes}
-use Rattle.wire.specs.Items.{items, hasPart}
+use Rattle.wire.specs.Items.{items, hasPart, flat}
 
 -- ---- a table as a list
 -- how many rows are in use
@@ -40,11 +40,6 @@ rowsOf size t = items size t 8 (countOf t)
 -- the bytes past the rows in use
 unfoldable pub pastOf : ℕ → List ℕ → List ℕ
 pastOf size t = drop (8 + countOf t * size) t
-
--- rows one behind the other
-unfoldable pub flat : List (List ℕ) → List ℕ
-flat [] = []
-flat (r ∷ rs) = r ++ flat rs
 
 -- the bytes of a table whose rows in use are rs, with rest past them
 unfoldable pub packed : List (List ℕ) → List ℕ → List ℕ

@@ -1,16 +1,16 @@
 -- The laws of `specs/Items.antt`: items of one size are a list, and loops over them. Assumes nothing.
 use mathlib.Core.Path.{_≡_, refl, sym, ap, _∙_, subst}
 use mathlib.Core.Bool.{Bool, true, false, not}
-use mathlib.Core.List.{List, [], _∷_, _++_}
+use mathlib.Core.List.{List, [], _∷_, _++_, append-assoc, append-nil}
 use Prim.Native.Nat.{ℕ, zero, suc, _+_, _-_, _*_, _≤_, _<_}
 use native.Mathlib.Numerals.{add-one}
 use native.Mathlib.Nat.{zero-mul, suc-mul, add-mul, add-zero, zero-add, mul-le-mul-right}
 use native.Mathlib.Omega.{arith}
-use lib.ListN.{length, getD, take, drop, drop-of-length-le, length-take, length-drop, length-append}
+use lib.ListN.{length, getD, set, take, drop, drop-of-length-le, length-take, length-drop, length-append, take-append-drop}
 use lib.Seq.{take-at, drop-at, take-append-seam, drop-append-add, drop-append-seam, length-take-le, drop-drop, drop-cons}
 use borrow.Author.Tests.{not-true, not-false}
 use Rattle.wire.specs.Bytes.{part, splice, less}
-use Rattle.wire.specs.Items.{chunks, items, itemIn, firstOf, sumOf, allOf, keyOf, keys, ascends, ascendsFrom}
+use Rattle.wire.specs.Items.{chunks, items, itemIn, flat, firstOf, sumOf, allOf, keyOf, keys, ascends, ascendsFrom}
 use Rattle.wire.specs.declared.Found.{Found}
 use Rattle.wire.specs.declared.Found.the-variants.{At, Nothing}
 use Rattle.wire.proofs.Laws.{length-part, true-not-false}
@@ -61,6 +61,50 @@ chunks-sized size xs zero h = none
 chunks-sized size xs (suc n) h =
     let q : suc n * size ≡ n * size + size = suc-mul n size in
     one (length-take-le size xs (omega arith)) (chunks-sized size (drop size xs) n (simp length-drop (omega arith)))
+
+pub sized-append : (size : ℕ) (xs ys : List (List ℕ)) → Sized size xs → Sized size ys → Sized size (xs ++ ys)
+sized-append size [] ys none s = s
+sized-append size (x ∷ xs) ys (one e r) s = one e (sized-append size xs ys r s)
+
+pub sized-set : (size : ℕ) (rs : List (List ℕ)) (i : ℕ) (row : List ℕ) → length row ≡ size → Sized size rs → Sized size (set rs i row)
+sized-set size [] i row l none = none
+sized-set size (r ∷ rs) zero row l (one e s) = one l s
+sized-set size (r ∷ rs) (suc i) row l (one e s) = one e (sized-set size rs i row l s)
+
+pub sized-take : (size : ℕ) (rs : List (List ℕ)) (i : ℕ) → Sized size rs → Sized size (take i rs)
+sized-take size [] zero none = none
+sized-take size [] (suc i) none = none
+sized-take size (r ∷ rs) zero (one e s) = none
+sized-take size (r ∷ rs) (suc i) (one e s) = one e (sized-take size rs i s)
+
+pub length-flat : (size : ℕ) (rs : List (List ℕ)) → Sized size rs → length (flat rs) ≡ length rs * size
+unfolding flat
+length-flat size [] none = sym (zero-mul size)
+length-flat size (r ∷ rs) (one e s) = rw (length-append, e, length-flat size rs s, suc-mul) (omega arith)
+
+pub flat-append : (xs ys : List (List ℕ)) → flat (xs ++ ys) ≡ flat xs ++ flat ys
+unfolding flat
+flat-append [] ys = refl
+flat-append (x ∷ xs) ys = rw (flat-append xs ys) (sym (append-assoc x (flat xs) (flat ys)))
+
+pub flat-one : (r : List ℕ) → flat (r ∷ []) ≡ r
+unfolding flat
+flat-one r = append-nil r
+
+-- the rows of a flat list are its rows
+pub chunks-flat : (size : ℕ) (rs : List (List ℕ)) (rest : List ℕ) → Sized size rs → chunks size (flat rs ++ rest) (length rs) ≡ rs
+unfolding chunks flat
+chunks-flat size [] rest none = refl
+chunks-flat size (r ∷ rs) rest (one e s) =
+    rw (append-assoc r (flat rs) rest, take-at r (flat rs ++ rest) size e, drop-at r (flat rs ++ rest) size e, chunks-flat size rs rest s)
+
+pub flat-chunks : (size : ℕ) (xs : List ℕ) (n : ℕ) → flat (chunks size xs n) ++ drop (n * size) xs ≡ xs
+unfolding chunks flat
+flat-chunks size xs zero = rw zero-mul
+flat-chunks size xs (suc n) =
+    let q : suc n * size ≡ size + n * size = omega (arith, suc-mul n size) in
+    let e : drop (suc n * size) xs ≡ drop (n * size) (drop size xs) = rw (q, drop-drop) in
+    rw (e, append-assoc, flat-chunks size (drop size xs) n) (take-append-drop size xs)
 
 chunks-get : (size : ℕ) (xs : List ℕ) (n i : ℕ) → i < n → getD (chunks size xs n) i [] ≡ part xs (i * size) size
 unfolding chunks part

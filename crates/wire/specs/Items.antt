@@ -1,7 +1,7 @@
 -- Items of one size that stand one behind the other: a list. Assumes nothing.
-use Prim.Native.Nat.{ℕ, zero, suc, _+_, _*_, _/_}
+use Prim.Native.Nat.{ℕ, zero, suc, _+_, _*_}
 use mathlib.Core.Bool.{Bool, true, false}
-use mathlib.Core.List.{List, [], _∷_, map}
+use mathlib.Core.List.{List, [], _∷_, _++_}
 use lib.ListN.{length, take, drop}
 use Rattle.wire.specs.Bytes.{part, alike, less}
 use Rattle.wire.specs.declared.Found.{Found}
@@ -19,6 +19,11 @@ items size xs at n = chunks size (drop at xs) n
 -- the bytes where item i of those from at stands
 unfoldable pub itemIn : ℕ → List ℕ → ℕ → ℕ → List ℕ
 itemIn size xs at i = part xs (at + i * size) size
+
+-- items one behind the other
+unfoldable pub flat : List (List ℕ) → List ℕ
+flat [] = []
+flat (r ∷ rs) = r ++ flat rs
 
 -- whether an item has what, from off
 unfoldable pub hasPart : ℕ → List ℕ → List ℕ → Bool
