@@ -1,3 +1,4 @@
 pub mod Members
 pub mod Committee
 pub mod Answers
+pub mod Sample

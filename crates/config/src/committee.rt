@@ -123,7 +123,10 @@ pub fn standing_of(members: &[u8], key: &[u8]) -> Standing
     let Found::At(i) = wire::items::find(members, MEMBER, 0, n, 0, key) else {
         return Standing::Stranger;
     };
-    Standing::Member(i, crate::members::stake_in(wire::items::item(members, MEMBER, 0, i)))
+    Standing::Member(
+        i,
+        crate::members::stake_in(wire::items::item(members, MEMBER, 0, i)),
+    )
 }
 
 // The stake of a key: a stranger has none.

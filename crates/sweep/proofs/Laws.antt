@@ -10,47 +10,12 @@ use lib.ListN.{length, getD, take, drop, replicate, length-take, length-drop, le
 use lib.Seq.{take-all, drop-length, take-length, length-take-le, drop-cons, take-suc}
 use borrow.Author.Tests.{not-true, not-false}
 use Rattle.wire.specs.Bytes.{part, splice, bytes}
-use Rattle.wire.specs.Items.{itemIn, flat}
+use Rattle.wire.specs.Items.{itemIn, flat, keeps}
 use Rattle.wire.proofs.Laws.{length-bytes, length-splice, splice-own}
-use Rattle.wire.proofs.Lists.{Sized, none, one, next-mul, gap-mul, below-mul, splice-seam, part-seam, sized-at, sized-take, length-flat, flat-append, flat-one}
+use Rattle.wire.proofs.Lists.{Sized, none, one, next-mul, gap-mul, below-mul, splice-seam, part-seam, sized-at, sized-take, keeps-append, keeps-sized, keeps-fewer, keeps-yes, keeps-no, length-flat, flat-append, flat-one}
 use Rattle.table.specs.Rows.{countOf, places, shaped, rowsOf, pastOf, packed}
 use Rattle.table.proofs.Laws.{IsTable, is-table, Holds, holds-packed, length-packed, After, after, length-past}
-use Rattle.sweep.specs.Kept.{keeps, went, kept, moved, counted, finished}
-
--- ---- the rows that a test keeps
-pub keeps-append : (keep : List ℕ → Bool) (xs ys : List (List ℕ)) → keeps keep (xs ++ ys) ≡ keeps keep xs ++ keeps keep ys
-unfolding keeps
-keeps-append keep [] ys = refl
-keeps-append keep (x ∷ xs) ys = go (keeps-append keep xs ys) (keep x) refl where
-  go : keeps keep (xs ++ ys) ≡ keeps keep xs ++ keeps keep ys → (b : Bool) → keep x ≡ b → keeps keep ((x ∷ xs) ++ ys) ≡ keeps keep (x ∷ xs) ++ keeps keep ys
-  go h true e = rw (e, h, keeps)
-  go h false e = rw (e, h, keeps)
-
-pub keeps-sized : (size : ℕ) (keep : List ℕ → Bool) (rs : List (List ℕ)) → Sized size rs → Sized size (keeps keep rs)
-unfolding keeps
-keeps-sized size keep [] none = none
-keeps-sized size keep (r ∷ rs) (one l s) = go (keeps-sized size keep rs s) (keep r) refl where
-  go : Sized size (keeps keep rs) → (b : Bool) → keep r ≡ b → Sized size (keeps keep (r ∷ rs))
-  go h true e = rw (e, keeps) (one l h)
-  go h false e = rw (e, keeps) h
-
-pub keeps-fewer : (keep : List ℕ → Bool) (rs : List (List ℕ)) → length (keeps keep rs) ≤ length rs
-unfolding keeps
-keeps-fewer keep [] = omega arith
-keeps-fewer keep (r ∷ rs) = go (keeps-fewer keep rs) (keep r) refl where
-  go : length (keeps keep rs) ≤ length rs → (b : Bool) → keep r ≡ b → length (keeps keep (r ∷ rs)) ≤ length (r ∷ rs)
-  go h true e = rw (e, keeps) (omega arith)
-  go h false e = rw (e, keeps) (omega arith)
-
--- one more row
-module _ (keep : List ℕ → Bool) (rs : List (List ℕ)) (i : ℕ) (l : i < length rs) where
-  keeps-yes : keep (getD rs i []) ≡ true → keeps keep (take (i + 1) rs) ≡ keeps keep (take i rs) ++ (getD rs i [] ∷ [])
-  unfolding keeps
-  keeps-yes e = rw (add-one, take-suc rs i [] l, keeps-append) (rw (e, keeps))
-
-  keeps-no : keep (getD rs i []) ≡ false → keeps keep (take (i + 1) rs) ≡ keeps keep (take i rs)
-  unfolding keeps
-  keeps-no e = rw (add-one, take-suc rs i [] l, keeps-append) (rw (e, keeps) (append-nil (keeps keep (take i rs))))
+use Rattle.sweep.specs.Kept.{went, kept, moved, counted, finished}
 
 -- ---- bytes: a row moved to the front of a gap
 shift : (h f gap r tail : List ℕ) (at size : ℕ) → length h + length f ≡ at → length r ≡ size → splice (h ++ (f ++ (gap ++ (r ++ tail)))) at r ≡ h ++ ((f ++ r) ++ (drop size (gap ++ r) ++ tail))
@@ -278,15 +243,6 @@ kept-after size keep t h b =
     after size t (packed ks (z ++ pastOf size t)) ks (z ++ pastOf size t) h (kept-holds size keep t h b)
     (n ∙ omega (arith, length-append z (pastOf size t), length-past size t, x .fits))
     (omega (arith, x .room))
-
--- where the test keeps every row the rows are the same
-pub keeps-all : (keep : List ℕ → Bool) (rs : List (List ℕ)) → ((k : ℕ) → k < length rs → keep (getD rs k []) ≡ true) → keeps keep rs ≡ rs
-unfolding keeps
-keeps-all keep [] h = refl
-keeps-all keep (r ∷ rs) h =
-    let e : keep r ≡ true = h 0 (omega arith) in
-    let f = keeps-all keep rs (λ k l. h (suc k) (omega arith)) in
-    rw (e, f, keeps)
 
 -- ---- `move_row`, one law for each way through it
 module _ (size : ℕ) (t : List ℕ) (i m : ℕ) (keep : Bool) where

@@ -1,17 +1,12 @@
 -- The rows that a test keeps, and the bytes that are left then. Assumes nothing.
 use Prim.Native.Nat.{ℕ, _+_, _-_, _*_}
 use mathlib.Core.Bool.{Bool, true, false}
-use mathlib.Core.List.{List, [], _∷_, _++_}
+use mathlib.Core.List.{List, _++_}
 use lib.ListN.{length, replicate}
 use lib.Dec.{leb}
 use Rattle.wire.specs.Bytes.{splice, bytes}
-use Rattle.wire.specs.Items.{itemIn}
+use Rattle.wire.specs.Items.{itemIn, keeps}
 use Rattle.table.specs.Rows.{countOf, rowsOf, pastOf, packed, roundOf}
-
--- the rows that a test keeps, in order
-unfoldable pub keeps : (List ℕ → Bool) → List (List ℕ) → List (List ℕ)
-keeps keep [] = []
-keeps keep (r ∷ rs) = elim (keep r) [ true ↦ r ∷ keeps keep rs | false ↦ keeps keep rs ]
 
 -- how many rows go
 unfoldable pub went : ℕ → (List ℕ → Bool) → List ℕ → ℕ

@@ -4,13 +4,13 @@ use mathlib.Core.Bool.{Bool, true, false, not}
 use mathlib.Core.List.{List, [], _∷_, _++_, append-assoc, append-nil}
 use Prim.Native.Nat.{ℕ, zero, suc, _+_, _-_, _*_, _≤_, _<_}
 use native.Mathlib.Numerals.{add-one}
-use native.Mathlib.Nat.{zero-mul, suc-mul, add-mul, add-zero, zero-add, mul-le-mul-right}
+use native.Mathlib.Nat.{zero-mul, suc-mul, add-mul, add-zero, zero-add, sub-zero, mul-le-mul-right}
 use native.Mathlib.Omega.{arith}
 use lib.ListN.{length, getD, set, take, drop, drop-of-length-le, length-take, length-drop, length-append, take-append-drop}
-use lib.Seq.{take-at, drop-at, take-append-seam, drop-append-add, drop-append-seam, length-take-le, drop-drop, drop-cons}
+use lib.Seq.{take-at, drop-at, take-append-seam, drop-append-add, drop-append-seam, length-take-le, drop-drop, drop-cons, take-suc}
 use borrow.Author.Tests.{not-true, not-false}
 use Rattle.wire.specs.Bytes.{part, splice, less}
-use Rattle.wire.specs.Items.{chunks, items, itemIn, flat, firstOf, sumOf, allOf, keyOf, keys, ascends, ascendsFrom}
+use Rattle.wire.specs.Items.{chunks, items, itemIn, flat, keeps, firstOf, sumOf, allOf, keyOf, keys, ascends, ascendsFrom}
 use Rattle.wire.specs.declared.Found.{Found}
 use Rattle.wire.specs.declared.Found.the-variants.{At, Nothing}
 use Rattle.wire.proofs.Laws.{length-part, true-not-false}
@@ -441,3 +441,71 @@ module _ (size : ℕ) (test : List ℕ → Bool) (xs : List ℕ) (at n : ℕ) (f
 
     pub found-length : (r : List ℕ) → r ≡ itemIn size xs at i → length r ≡ size
     found-length r q = ap length q ∙ item-length size xs at n h i found-below
+
+-- ---- what a test of all says of each
+pub all-at : (test : List ℕ → Bool) (rs : List (List ℕ)) (i : ℕ) → allOf test rs ≡ true → i < length rs → test (getD rs i []) ≡ true
+unfolding allOf
+all-at test [] i e l = absurd (omega arith)
+all-at test (r ∷ rs) i e l = go (all-at test rs) (test r) refl e i l where
+  go : ((i : ℕ) → allOf test rs ≡ true → i < length rs → test (getD rs i []) ≡ true) → (b : Bool) → test r ≡ b → allOf test (r ∷ rs) ≡ true → (i : ℕ) → i < length (r ∷ rs) → test (getD (r ∷ rs) i []) ≡ true
+  go h true q e zero l = q
+  go h true q e (suc i) l = h i (rw (q, allOf) at e) (omega arith)
+  go h false q e i l = absurd (true-not-false (sym (rw (q, allOf) at e)))
+
+-- ---- those that a test keeps
+pub keeps-append : (keep : List ℕ → Bool) (xs ys : List (List ℕ)) → keeps keep (xs ++ ys) ≡ keeps keep xs ++ keeps keep ys
+unfolding keeps
+keeps-append keep [] ys = refl
+keeps-append keep (x ∷ xs) ys = go (keeps-append keep xs ys) (keep x) refl where
+  go : keeps keep (xs ++ ys) ≡ keeps keep xs ++ keeps keep ys → (b : Bool) → keep x ≡ b → keeps keep ((x ∷ xs) ++ ys) ≡ keeps keep (x ∷ xs) ++ keeps keep ys
+  go h true e = rw (e, h, keeps)
+  go h false e = rw (e, h, keeps)
+
+pub keeps-sized : (size : ℕ) (keep : List ℕ → Bool) (rs : List (List ℕ)) → Sized size rs → Sized size (keeps keep rs)
+unfolding keeps
+keeps-sized size keep [] none = none
+keeps-sized size keep (r ∷ rs) (one l s) = go (keeps-sized size keep rs s) (keep r) refl where
+  go : Sized size (keeps keep rs) → (b : Bool) → keep r ≡ b → Sized size (keeps keep (r ∷ rs))
+  go h true e = rw (e, keeps) (one l h)
+  go h false e = rw (e, keeps) h
+
+pub keeps-fewer : (keep : List ℕ → Bool) (rs : List (List ℕ)) → length (keeps keep rs) ≤ length rs
+unfolding keeps
+keeps-fewer keep [] = omega arith
+keeps-fewer keep (r ∷ rs) = go (keeps-fewer keep rs) (keep r) refl where
+  go : length (keeps keep rs) ≤ length rs → (b : Bool) → keep r ≡ b → length (keeps keep (r ∷ rs)) ≤ length (r ∷ rs)
+  go h true e = rw (e, keeps) (omega arith)
+  go h false e = rw (e, keeps) (omega arith)
+
+-- one more row
+module _ (keep : List ℕ → Bool) (rs : List (List ℕ)) (i : ℕ) (l : i < length rs) where
+  pub keeps-yes : keep (getD rs i []) ≡ true → keeps keep (take (i + 1) rs) ≡ keeps keep (take i rs) ++ (getD rs i [] ∷ [])
+  unfolding keeps
+  keeps-yes e = rw (add-one, take-suc rs i [] l, keeps-append) (rw (e, keeps))
+
+  pub keeps-no : keep (getD rs i []) ≡ false → keeps keep (take (i + 1) rs) ≡ keeps keep (take i rs)
+  unfolding keeps
+  keeps-no e = rw (add-one, take-suc rs i [] l, keeps-append) (rw (e, keeps) (append-nil (keeps keep (take i rs))))
+
+-- where the test keeps every one all are kept
+pub keeps-all : (keep : List ℕ → Bool) (rs : List (List ℕ)) → ((k : ℕ) → k < length rs → keep (getD rs k []) ≡ true) → keeps keep rs ≡ rs
+unfolding keeps
+keeps-all keep [] h = refl
+keeps-all keep (r ∷ rs) h =
+    let e : keep r ≡ true = h 0 (omega arith) in
+    let f = keeps-all keep rs (λ k l. h (suc k) (omega arith)) in
+    rw (e, f, keeps)
+
+-- ---- the items from a later one on
+pub chunks-drop : (size : ℕ) (xs : List ℕ) (n k : ℕ) → k ≤ n → drop k (chunks size xs n) ≡ chunks size (drop (k * size) xs) (n - k)
+unfolding chunks
+chunks-drop size xs n zero h = rw (zero-mul, sub-zero)
+chunks-drop size xs zero (suc k) h = absurd (omega arith)
+chunks-drop size xs (suc n) (suc k) h =
+    let q : suc k * size ≡ size + k * size = omega (arith, suc-mul k size) in
+    let s : suc n - suc k ≡ n - k = omega arith in
+    chunks-drop size (drop size xs) n k (omega arith) ∙ rw (q, s, drop-drop)
+
+pub items-drop : (size : ℕ) (xs : List ℕ) (at n k at′ n′ : ℕ) → k ≤ n → at′ ≡ at + k * size → n′ ≡ n - k → drop k (items size xs at n) ≡ items size xs at′ n′
+unfolding items
+items-drop size xs at n k at′ n′ h e f = chunks-drop size (drop at xs) n k h ∙ rw (e, f, drop-drop)

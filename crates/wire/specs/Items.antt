@@ -44,6 +44,11 @@ unfoldable pub allOf : (List ℕ → Bool) → List (List ℕ) → Bool
 allOf test [] = true
 allOf test (r ∷ rs) = elim (test r) [ true ↦ allOf test rs | false ↦ false ]
 
+-- those that a test keeps, in order
+unfoldable pub keeps : (List ℕ → Bool) → List (List ℕ) → List (List ℕ)
+keeps keep [] = []
+keeps keep (r ∷ rs) = elim (keep r) [ true ↦ r ∷ keeps keep rs | false ↦ keeps keep rs ]
+
 -- the first 32 bytes of each: a key or a digest
 unfoldable pub keyOf : List ℕ → List ℕ
 keyOf item = part item 0 32

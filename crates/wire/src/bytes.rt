@@ -44,5 +44,5 @@ pub fn less32(a: &[u8], i: usize, b: &[u8], j: usize) -> bool
         }
         k += 1;
     }
-    false
+    false // equal: neither comes first
 }

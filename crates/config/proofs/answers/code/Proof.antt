@@ -1,3 +1,4 @@
+use Rattle.config.proofs.Replies.{code-done, code-committee, code-shape}
 use native.Mathlib.Omega.{arith}
 use borrow.Author.Needs.{needs}
 use Rattle.config.proofs.answers.code.Statement.{statement}
@@ -21,13 +22,13 @@ enum-told-2 : tie.Need-enum-told-2
 enum-told-2 c = search needs
 
 returns : tie.Need-returns
-returns c = search needs
+returns c = search code-done
 
 returns-2 : tie.Need-returns-2
-returns-2 c = search needs
+returns-2 c = search code-committee
 
 returns-3 : tie.Need-returns-3
-returns-3 c = search needs
+returns-3 c = search code-shape
 
 pub code-spec : {M : Type 1} → statement M
 code-spec =

@@ -1,3 +1,4 @@
+use Rattle.config.specs.Committee.{leaderPlace}
 use native.Mathlib.Omega.{arith}
 use borrow.Author.Needs.{needs}
 use Rattle.config.proofs.committee.leader_place.Statement.{statement}
@@ -9,6 +10,7 @@ rem-result : tie.Need-rem-result
 rem-result c = search needs
 
 returns : tie.Need-returns
+unfolding leaderPlace
 returns c = search needs
 
 pub leader-place-spec : {M : Type 1} → statement M

@@ -1,3 +1,4 @@
+use Rattle.config.proofs.Laws.{stake-none, stake-some}
 use native.Mathlib.Omega.{arith}
 use borrow.Author.Needs.{needs}
 use Rattle.config.proofs.committee.stake.Statement.{statement}
@@ -16,10 +17,10 @@ enum-told : tie.Need-enum-told
 enum-told c = search needs
 
 returns : tie.Need-returns
-returns c = search needs
+returns c = search stake-none
 
 returns-2 : tie.Need-returns-2
-returns-2 c = search needs
+returns-2 c = search stake-some
 
 pub stake-spec : {M : Type 1} → statement M
 stake-spec = tie.close (tie.spec standing-of-requires enum-known-s enum-told returns returns-2)

@@ -1,3 +1,4 @@
+use Rattle.config.proofs.Laws.{stranger, member-fits, member-reach, member}
 use native.Mathlib.Omega.{arith}
 use borrow.Author.Needs.{needs}
 use Rattle.config.proofs.committee.standing_of.Statement.{statement}
@@ -18,16 +19,16 @@ enum-told : tie.Need-enum-told
 enum-told c = search needs
 
 returns : tie.Need-returns
-returns c = search needs
+returns c = search stranger
 
 item-requires : tie.Need-item-requires
-item-requires c κs = search needs
+item-requires c κs = search member-fits
 
 stake-in-requires : tie.Need-stake-in-requires
-stake-in-requires c κs = search needs
+stake-in-requires c κs = search member-reach
 
 returns-2 : tie.Need-returns-2
-returns-2 c = search needs
+returns-2 c = search member
 
 pub standing-of-spec : {M : Type 1} → statement M
 standing-of-spec =

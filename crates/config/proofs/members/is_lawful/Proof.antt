@@ -1,3 +1,4 @@
+use Rattle.config.proofs.Laws.{lawful-poor, lawful-last}
 use native.Mathlib.Omega.{arith}
 use borrow.Author.Needs.{needs}
 use Rattle.config.proofs.members.is_lawful.Statement.{statement}
@@ -11,13 +12,13 @@ stake-in-requires : tie.Need-stake-in-requires
 stake-in-requires c κs = search needs
 
 returns : tie.Need-returns
-returns c = search needs
+returns c = search lawful-poor
 
 worker-count-requires : tie.Need-worker-count-requires
 worker-count-requires c κs = search needs
 
 returns-2 : tie.Need-returns-2
-returns-2 c = search needs
+returns-2 c = search lawful-last
 
 pub is-lawful-spec : {M : Type 1} → statement M
 is-lawful-spec = tie.close (tie.spec stake-in-requires returns worker-count-requires returns-2)

@@ -1,3 +1,4 @@
+use Rattle.config.specs.Members.{stakeIn}
 use native.Mathlib.Omega.{arith}
 use borrow.Author.Needs.{needs}
 use Rattle.config.proofs.members.stake_in.Statement.{statement}
@@ -10,6 +11,7 @@ read-u32-requires : tie.Need-read-u32-requires
 read-u32-requires c κs = search needs
 
 returns : tie.Need-returns
+unfolding stakeIn
 returns c = search needs
 
 pub stake-in-spec : {M : Type 1} → statement M

@@ -1,3 +1,5 @@
+use mathlib.Core.Path.{refl}
+use Rattle.config.specs.Members.{workerCount}
 use native.Mathlib.Omega.{arith}
 use borrow.Author.Needs.{needs}
 use Rattle.config.proofs.members.worker_count.Statement.{statement}
@@ -9,10 +11,11 @@ shared-slice-read-result : tie.Need-shared-slice-read-result
 shared-slice-read-result c = search needs
 
 cast-result : tie.Need-cast-result
-cast-result c = search needs
+cast-result c = omega (arith, c .shared-slice-known .given 36)
 
 returns : tie.Need-returns
-returns c = search needs
+unfolding workerCount
+returns c = refl
 
 pub worker-count-spec : {M : Type 1} → statement M
 worker-count-spec = tie.close (tie.spec shared-slice-read-result cast-result returns)

@@ -1,0 +1,2 @@
+-- P1 to P7 of document 01 hold.
+pub mod Document

@@ -1,0 +1,2 @@
+-- What the promises of the entry points settle.
+pub mod Same

@@ -1,0 +1,3 @@
+// The boundary: what a host links. Numbers and byte slices in; one number out, document 01's number and 256 times the count.
+// docs/INTERFACE.md says every byte.
+pub mod committee; // questions on a member list
