@@ -1,0 +1,3 @@
+-- The laws of `specs/Genesis.antt`, and examples.
+pub mod Laws
+pub mod Examples
