@@ -2,6 +2,9 @@
 use mathlib.Core.Path.{_≡_, sym, _∙_}
 use mathlib.Core.List.{List}
 use Prim.Native.Nat.{ℕ}
+use Rattle.synchronizer.specs.Answers.{deliverAnswer}
+use Rattle.synchronizer.specs.Answers as synchronizer
+use Rattle.node.specs.Promises.{HeaderString, VoteString, GetParents, MissingPayload, Learn}
 use Rattle.config.specs.Answers.{codeOf, committeeAnswer, setupAnswer, quorumAnswer, validityAnswer, stakeAnswer, workerAnswer, leaderAnswer}
 
 module _ (r s : ℕ) where
@@ -25,3 +28,24 @@ module _ (r s : ℕ) where
 
   pub same-leader : (members : List ℕ) (round : ℕ) → r ≡ codeOf (leaderAnswer members round) → s ≡ codeOf (leaderAnswer members round) → r ≡ s
   same-leader members round p q = p ∙ sym q
+
+-- ---- entry points that write to a slice: answer and content
+module _ (r s : ℕ) (u v : List ℕ) where
+  pub same-header-string : (header out : List ℕ) (at : ℕ) → HeaderString header out at r u → HeaderString header out at s v → (r ≡ s) × (u ≡ v)
+  same-header-string header out at p q = (p .answer ∙ sym (q .answer), p .buffer ∙ sym (q .buffer))
+
+  -- of `tundrimela_vote_string` and of `tundrimela_certificate_string`
+  pub same-vote-string : (id : List ℕ) (round : ℕ) (origin out : List ℕ) (at : ℕ) → VoteString id round origin out at r u → VoteString id round origin out at s v → (r ≡ s) × (u ≡ v)
+  same-vote-string id round origin out at p q = (p .answer ∙ sym (q .answer), p .buffer ∙ sym (q .buffer))
+
+  pub same-get-parents : (members genesis known header out : List ℕ) → GetParents members genesis known header out r u → GetParents members genesis known header out s v → (r ≡ s) × (u ≡ v)
+  same-get-parents members genesis known header out p q = (p .answer ∙ sym (q .answer), p .buffer ∙ sym (q .buffer))
+
+  pub same-missing-payload : (own pairs header out : List ℕ) → MissingPayload own pairs header out r u → MissingPayload own pairs header out s v → (r ≡ s) × (u ≡ v)
+  same-missing-payload own pairs header out p q = (p .answer ∙ sym (q .answer), p .buffer ∙ sym (q .buffer))
+
+  pub same-learn : (known new : List ℕ) → Learn known new r u → Learn known new s v → (r ≡ s) × (u ≡ v)
+  same-learn known new p q = (p .answer ∙ sym (q .answer), p .table ∙ sym (q .table))
+
+pub same-deliver : (r s : ℕ) (members genesis known header : List ℕ) → r ≡ synchronizer.codeOf (deliverAnswer members genesis known header) → s ≡ synchronizer.codeOf (deliverAnswer members genesis known header) → r ≡ s
+same-deliver r s members genesis known header p q = p ∙ sym q

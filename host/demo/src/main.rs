@@ -1,5 +1,7 @@
 //! What the library says of the story's committee. Rounds given as arguments are looked up too.
 
+#![forbid(unsafe_code)]
+
 mod story;
 
 use std::fmt::Write as _;

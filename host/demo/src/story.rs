@@ -104,8 +104,12 @@ pub fn damaged() -> Vec<Damaged> {
         damage("Heather with stake 0", "each stake at least 1", |x| {
             x[4].stake = 0
         }),
-        damage("all stake 16,777,217", "at most 16,777,216", outweigh),
-        damage("Heather with 9 workers", "0 to 8 workers each", overwork),
+        damage("all stake 16,777,217", "at most 16,777,216", |x| {
+            outweigh(x)
+        }),
+        damage("Heather with 9 workers", "0 to 8 workers each", |x| {
+            overwork(x)
+        }),
     ]
 }
 
@@ -118,11 +122,11 @@ fn fill_up(list: &mut Vec<Member>) {
     }
 }
 
-fn outweigh(list: &mut Vec<Member>) {
+fn outweigh(list: &mut [Member]) {
     let others: u32 = list[1..].iter().map(|x| x.stake).sum();
     list[0].stake = MAX_TOTAL_STAKE + 1 - others;
 }
 
-fn overwork(list: &mut Vec<Member>) {
+fn overwork(list: &mut [Member]) {
     list[4].workers = (0..=MAX_WORKERS as u32).collect();
 }

@@ -4,6 +4,8 @@
 //! case from a generator of random numbers, asks both sides and compares. A run is the cases
 //! that a seed gives, and ends at the first [`Difference`].
 
+#![forbid(unsafe_code)]
+
 pub mod call;
 pub mod config;
 pub mod coverage;

@@ -269,7 +269,7 @@ fn share(rng: &mut Rng, rows: &mut [Row], total: u64) {
         waiting -= 1;
         let most = (left - waiting).min(u64::from(u32::MAX));
         let least = left.saturating_sub(waiting * u64::from(u32::MAX)).max(1);
-        let random = least + rng.next() % (most - least + 1);
+        let random = least + rng.u64() % (most - least + 1);
         let even = (left / (waiting + 1)).max(least);
         let stake = if waiting == 0 {
             left

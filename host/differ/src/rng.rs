@@ -6,10 +6,10 @@ impl Rng {
     /// The numbers of one case of a seed, so that a case can be had without those before it.
     pub fn of_case(seed: u64, case: u64) -> Rng {
         let mut seeds = Rng(seed);
-        Rng(seeds.next() ^ case.wrapping_mul(0xd134_2543_de82_ef95))
+        Rng(seeds.u64() ^ case.wrapping_mul(0xd134_2543_de82_ef95))
     }
 
-    pub fn next(&mut self) -> u64 {
+    pub fn u64(&mut self) -> u64 {
         self.0 = self.0.wrapping_add(0x9e37_79b9_7f4a_7c15);
         let mut x = self.0;
         x = (x ^ (x >> 30)).wrapping_mul(0xbf58_476d_1ce4_e5b9);
@@ -19,7 +19,7 @@ impl Rng {
 
     /// A number below `end`, which is not 0.
     pub fn below(&mut self, end: usize) -> usize {
-        (self.next() % end as u64) as usize
+        (self.u64() % end as u64) as usize
     }
 
     /// A number from `low` to `high`, both among them.
@@ -37,11 +37,11 @@ impl Rng {
     }
 
     pub fn byte(&mut self) -> u8 {
-        self.next() as u8
+        self.u64() as u8
     }
 
     pub fn u32(&mut self) -> u32 {
-        self.next() as u32
+        self.u64() as u32
     }
 
     pub fn bytes(&mut self, length: usize) -> Vec<u8> {

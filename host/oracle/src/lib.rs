@@ -3,6 +3,8 @@
 //! [`committee`] and [`messages`] make what goes in; [`consensus`], [`core`] and [`proposer`] each
 //! drive one of its tasks and hand back all that an event made it do.
 
+#![forbid(unsafe_code)]
+
 pub mod committee;
 pub mod consensus;
 pub mod core;

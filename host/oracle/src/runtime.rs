@@ -69,7 +69,7 @@ impl Future for Idle {
 }
 
 thread_local! {
-    static DRIVING: Cell<bool> = Cell::new(false);
+    static DRIVING: Cell<bool> = const { Cell::new(false) };
 }
 
 /// Records the panics of tasks, which tokio would swallow; any other panic is told as ever.

@@ -1,7 +1,7 @@
 //! The library's entry points: the one place that leaves Rust.
 //!
 //! A slice goes over as a pointer and a length, which are those of a Rust slice here. The library
-//! reads no byte beyond them and keeps no pointer; it has no other precondition.
+//! reads no byte beyond them, writes none of a slice that it only reads, and keeps no pointer.
 
 extern "C" {
     fn tundrimela_committee(members: *const u8, members_len: usize) -> u64;

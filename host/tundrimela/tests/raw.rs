@@ -87,6 +87,15 @@ fn a_key_has_32_bytes() {
 }
 
 #[test]
+fn a_key_may_lie_in_the_list_itself() {
+    let committee = three();
+    let members = committee.as_bytes();
+    let key = &members[2 * member::SIZE..][..32];
+    assert_eq!(raw::stake(members, key), Answer::done(3));
+    assert_eq!(raw::worker(members, key, 7), Answer::done(1));
+}
+
+#[test]
 fn an_id_has_32_bits() {
     let committee = three();
     let ask = |id| raw::worker(committee.as_bytes(), &[1; 32], id);

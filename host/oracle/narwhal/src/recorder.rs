@@ -32,7 +32,7 @@ pub enum Seen {
 }
 
 thread_local! {
-    static LOG: RefCell<Vec<Seen>> = RefCell::new(Vec::new());
+    static LOG: RefCell<Vec<Seen>> = const { RefCell::new(Vec::new()) };
 }
 
 pub fn push(seen: Seen) {

@@ -1,0 +1,5 @@
+pub mod Laws
+pub mod Writing
+pub mod Replies
+pub mod Same
+pub mod Examples

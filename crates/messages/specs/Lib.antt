@@ -1,0 +1,6 @@
+pub mod Header
+pub mod Vote
+pub mod Certificate
+pub mod Strings
+pub mod Answers
+pub mod Sample

@@ -1,0 +1,29 @@
+-- From a module's answer to the number that the host gets. Assumes nothing.
+use mathlib.Core.Path.{_≡_, ap, _∙_}
+use mathlib.Core.List.{List}
+use Prim.Native.Nat.{ℕ}
+use Rattle.messages.specs.Strings.{headerString, voteString}
+use Rattle.messages.specs.Answers.{Written, mayHeader, mayVote}
+use Rattle.messages.specs.Answers as messages
+use Rattle.messages.specs.declared.answers.Answer as messages-answer
+use Rattle.synchronizer.specs.Answers.{ParentsAnswer, PayloadAnswer, LearnAnswer}
+use Rattle.synchronizer.specs.Answers as synchronizer
+use Rattle.synchronizer.specs.declared.answers.Answer as synchronizer-answer
+use Rattle.node.specs.Promises.{HeaderString, VoteString, GetParents, MissingPayload, Learn}
+
+module _ (r : ℕ) (a : messages-answer.Answer) (e : r ≡ messages.codeOf a) where
+  pub header-string : (header out : List ℕ) (at : ℕ) (out′ : List ℕ) → Written (mayHeader header out at) (headerString header) out at a out′ → HeaderString header out at r out′
+  header-string header out at out′ w = record { answer = e ∙ ap messages.codeOf (w .answer); buffer = w .buffer }
+
+  pub vote-string : (id : List ℕ) (round : ℕ) (origin out : List ℕ) (at : ℕ) (out′ : List ℕ) → Written (mayVote id round origin out at) (voteString id round origin) out at a out′ → VoteString id round origin out at r out′
+  vote-string id round origin out at out′ w = record { answer = e ∙ ap messages.codeOf (w .answer); buffer = w .buffer }
+
+module _ (r : ℕ) (a : synchronizer-answer.Answer) (e : r ≡ synchronizer.codeOf a) where
+  pub get-parents : (members genesis known header out out′ : List ℕ) → ParentsAnswer members genesis known header out a out′ → GetParents members genesis known header out r out′
+  get-parents members genesis known header out out′ w = record { answer = e ∙ ap synchronizer.codeOf (w .answer); buffer = w .buffer }
+
+  pub missing-payload : (own pairs header out out′ : List ℕ) → PayloadAnswer own pairs header out a out′ → MissingPayload own pairs header out r out′
+  missing-payload own pairs header out out′ w = record { answer = e ∙ ap synchronizer.codeOf (w .answer); buffer = w .buffer }
+
+  pub learn : (known new known′ : List ℕ) → LearnAnswer known new a known′ → Learn known new r known′
+  learn known new known′ w = record { answer = e ∙ ap synchronizer.codeOf (w .answer); table = w .table }

@@ -1,0 +1,38 @@
+-- What the entry points promise that write to a lent slice: the answer and the slice's final content, for every input. The answer of
+-- each other entry point is the one equation of its contract. Assumes nothing.
+use mathlib.Core.Path.{_≡_}
+use mathlib.Core.Bool.{_&&_}
+use mathlib.Core.List.{List}
+use Prim.Native.Nat.{ℕ}
+use lib.Dec.{eqb}
+use lib.ListN.{length}
+use Rattle.config.specs.Committee.{validMembers}
+use Rattle.messages.specs.Strings.{headerString, voteString}
+use Rattle.messages.specs.Answers.{writtenAnswer, writtenOut, mayHeader, mayVote}
+use Rattle.messages.specs.Answers as messages
+use Rattle.synchronizer.specs.Payload.{pairsOf, missingPayload}
+use Rattle.synchronizer.specs.Answers.{outAs, lookable, missingOf, parentsAnswer, payloadShape, payloadAnswer, learnAnswer, learntTable}
+use Rattle.synchronizer.specs.Answers as synchronizer
+
+-- ---- messages
+pub record HeaderString (header out : List ℕ) (at r : ℕ) (out′ : List ℕ) : Type 0 where
+  pub answer : r ≡ messages.codeOf (writtenAnswer (mayHeader header out at) (headerString header))
+  pub buffer : out′ ≡ writtenOut (mayHeader header out at) out at (headerString header)
+
+-- a vote's and a certificate's string are the same
+pub record VoteString (id : List ℕ) (round : ℕ) (origin out : List ℕ) (at r : ℕ) (out′ : List ℕ) : Type 0 where
+  pub answer : r ≡ messages.codeOf (writtenAnswer (mayVote id round origin out at) (voteString id round origin))
+  pub buffer : out′ ≡ writtenOut (mayVote id round origin out at) out at (voteString id round origin)
+
+-- ---- synchronizer
+pub record GetParents (members genesis known header out : List ℕ) (r : ℕ) (out′ : List ℕ) : Type 0 where
+  pub answer : r ≡ synchronizer.codeOf (parentsAnswer members genesis known header out)
+  pub buffer : out′ ≡ outAs (validMembers members && (lookable members genesis known header && eqb (length out) 1024)) (missingOf genesis known header) out
+
+pub record MissingPayload (own pairs header out : List ℕ) (r : ℕ) (out′ : List ℕ) : Type 0 where
+  pub answer : r ≡ synchronizer.codeOf (payloadAnswer own pairs header out)
+  pub buffer : out′ ≡ outAs (payloadShape own pairs header out) (missingPayload own (pairsOf pairs) header) out
+
+pub record Learn (known new : List ℕ) (r : ℕ) (known′ : List ℕ) : Type 0 where
+  pub answer : r ≡ synchronizer.codeOf (learnAnswer known new)
+  pub table : known′ ≡ learntTable known new

@@ -1,0 +1,5 @@
+pub mod Picked
+pub mod Parents
+pub mod Payload
+pub mod Known
+pub mod Answers
