@@ -9,7 +9,10 @@ use Rattle.messages.specs.declared.answers.Answer as messages-answer
 use Rattle.synchronizer.specs.Answers.{ParentsAnswer, PayloadAnswer, LearnAnswer}
 use Rattle.synchronizer.specs.Answers as synchronizer
 use Rattle.synchronizer.specs.declared.answers.Answer as synchronizer-answer
-use Rattle.node.specs.Promises.{HeaderString, VoteString, GetParents, MissingPayload, Learn}
+use Rattle.proposer.specs.Events.{After, Left}
+use Rattle.proposer.specs.Events as proposer
+use Rattle.proposer.specs.declared.events.Answer as proposer-answer
+use Rattle.node.specs.Promises.{HeaderString, VoteString, GetParents, MissingPayload, Learn, Proposed}
 
 module _ (r : ℕ) (a : messages-answer.Answer) (e : r ≡ messages.codeOf a) where
   pub header-string : (header out : List ℕ) (at : ℕ) (out′ : List ℕ) → Written (mayHeader header out at) (headerString header) out at a out′ → HeaderString header out at r out′
@@ -27,3 +30,6 @@ module _ (r : ℕ) (a : synchronizer-answer.Answer) (e : r ≡ synchronizer.code
 
   pub learn : (known new known′ : List ℕ) → LearnAnswer known new a known′ → Learn known new r known′
   learn known new known′ w = record { answer = e ∙ ap synchronizer.codeOf (w .answer); table = w .table }
+
+pub proposed : (r : ℕ) (x : proposer-answer.Answer) (a : After) (state header : List ℕ) → r ≡ proposer.codeOf x → Left a x state header → Proposed a r state header
+proposed r x a state header e w = record { answer = e ∙ ap proposer.codeOf (w .answer); state-is = w .state; header-is = w .header }

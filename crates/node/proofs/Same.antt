@@ -4,7 +4,12 @@ use mathlib.Core.List.{List}
 use Prim.Native.Nat.{ℕ}
 use Rattle.synchronizer.specs.Answers.{deliverAnswer}
 use Rattle.synchronizer.specs.Answers as synchronizer
-use Rattle.node.specs.Promises.{HeaderString, VoteString, GetParents, MissingPayload, Learn}
+use Rattle.checks.specs.Answers as checks
+use Rattle.checks.specs.Header.{headerCheck}
+use Rattle.checks.specs.Vote.{voteCheck}
+use Rattle.checks.specs.Certificate.{certificateCheck}
+use Rattle.proposer.specs.Events.{After}
+use Rattle.node.specs.Promises.{HeaderString, VoteString, GetParents, MissingPayload, Learn, Proposed}
 use Rattle.config.specs.Answers.{codeOf, committeeAnswer, setupAnswer, quorumAnswer, validityAnswer, stakeAnswer, workerAnswer, leaderAnswer}
 
 module _ (r s : ℕ) where
@@ -49,3 +54,18 @@ module _ (r s : ℕ) (u v : List ℕ) where
 
 pub same-deliver : (r s : ℕ) (members genesis known header : List ℕ) → r ≡ synchronizer.codeOf (deliverAnswer members genesis known header) → s ≡ synchronizer.codeOf (deliverAnswer members genesis known header) → r ≡ s
 same-deliver r s members genesis known header p q = p ∙ sym q
+
+-- ---- checks
+module _ (r s : ℕ) (members : List ℕ) where
+  pub same-header-check : (header : List ℕ) (id sig : ℕ) → r ≡ checks.codeOf (headerCheck members header id sig) → s ≡ checks.codeOf (headerCheck members header id sig) → r ≡ s
+  same-header-check header id sig p q = p ∙ sym q
+
+  pub same-vote-check : (vote : List ℕ) (sig : ℕ) → r ≡ checks.codeOf (voteCheck members vote sig) → s ≡ checks.codeOf (voteCheck members vote sig) → r ≡ s
+  same-vote-check vote sig p q = p ∙ sym q
+
+  pub same-certificate-check : (certificate : List ℕ) (id sig batch : ℕ) → r ≡ checks.codeOf (certificateCheck members certificate id sig batch) → s ≡ checks.codeOf (certificateCheck members certificate id sig batch) → r ≡ s
+  same-certificate-check certificate id sig batch p q = p ∙ sym q
+
+-- ---- the proposer: answer, state and header, of `tundrimela_proposer_start` and of `tundrimela_proposer_event`
+pub same-proposed : (a : After) (r s : ℕ) (t u g h : List ℕ) → Proposed a r t g → Proposed a s u h → (r ≡ s) × ((t ≡ u) × (g ≡ h))
+same-proposed a r s t u g h p q = (p .answer ∙ sym (q .answer), (p .state-is ∙ sym (q .state-is), p .header-is ∙ sym (q .header-is)))

@@ -13,6 +13,8 @@ use Rattle.messages.specs.Answers as messages
 use Rattle.synchronizer.specs.Payload.{pairsOf, missingPayload}
 use Rattle.synchronizer.specs.Answers.{outAs, lookable, missingOf, parentsAnswer, payloadShape, payloadAnswer, learnAnswer, learntTable}
 use Rattle.synchronizer.specs.Answers as synchronizer
+use Rattle.proposer.specs.Events.{After}
+use Rattle.proposer.specs.Events as proposer
 
 -- ---- messages
 pub record HeaderString (header out : List ℕ) (at r : ℕ) (out′ : List ℕ) : Type 0 where
@@ -36,3 +38,9 @@ pub record MissingPayload (own pairs header out : List ℕ) (r : ℕ) (out′ : 
 pub record Learn (known new : List ℕ) (r : ℕ) (known′ : List ℕ) : Type 0 where
   pub answer : r ≡ synchronizer.codeOf (learnAnswer known new)
   pub table : known′ ≡ learntTable known new
+
+-- ---- proposer: of what its start or an event is to leave
+pub record Proposed (a : After) (r : ℕ) (state header : List ℕ) : Type 0 where
+  pub answer : r ≡ proposer.codeOf (a .answer)
+  pub state-is : state ≡ a .state
+  pub header-is : header ≡ a .header

@@ -2,4 +2,6 @@
 // docs/INTERFACE.md says every byte.
 pub mod committee; // questions on a member list
 pub mod strings; // strings for hashing
+pub mod verdicts; // checks of header, vote and certificate
 pub mod sync; // parents and payload, the known table
+pub mod propose; // the proposer's start and events

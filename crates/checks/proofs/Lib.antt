@@ -1,0 +1,4 @@
+pub mod Laws
+pub mod Votes
+pub mod Same
+pub mod Examples

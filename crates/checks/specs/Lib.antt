@@ -1,0 +1,4 @@
+pub mod Answers
+pub mod Header
+pub mod Vote
+pub mod Certificate

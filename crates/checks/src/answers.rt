@@ -1,0 +1,32 @@
+// What a check finds.
+ghost use mathlib.Core.Path.{_≡_};
+ghost use Rattle.checks.specs.Answers.{codeOf};
+
+pub enum Answer {
+    Done(u32),
+    BadCommittee,
+    BadShape,
+    InvalidHeaderId,
+    UnknownAuthority,
+    MalformedHeader,
+    InvalidSignature,
+    AuthorityReuse,
+    CertificateRequiresQuorum,
+}
+
+// The answer as one number: document 01's number, and 256 times the value.
+pub fn code(answer: Answer) -> u64
+    ensures { λ r. ⌜ r ≡ codeOf answer ⌝ }
+{
+    match answer {
+        Answer::Done(n) => 256 * n as u64,
+        Answer::BadCommittee => 10,
+        Answer::BadShape => 11,
+        Answer::InvalidHeaderId => 1,
+        Answer::UnknownAuthority => 2,
+        Answer::MalformedHeader => 3,
+        Answer::InvalidSignature => 4,
+        Answer::AuthorityReuse => 5,
+        Answer::CertificateRequiresQuorum => 7,
+    }
+}
