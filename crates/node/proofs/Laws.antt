@@ -9,10 +9,14 @@ use Rattle.messages.specs.declared.answers.Answer as messages-answer
 use Rattle.synchronizer.specs.Answers.{ParentsAnswer, PayloadAnswer, LearnAnswer}
 use Rattle.synchronizer.specs.Answers as synchronizer
 use Rattle.synchronizer.specs.declared.answers.Answer as synchronizer-answer
+use Rattle.aggregators.specs.Votes.{CountsVote}
+use Rattle.aggregators.specs.Certificates.{CountsCertificate}
+use Rattle.aggregators.specs.Answers as aggregators
+use Rattle.aggregators.specs.declared.answers.Answer as aggregators-answer
 use Rattle.proposer.specs.Events.{After, Left}
 use Rattle.proposer.specs.Events as proposer
 use Rattle.proposer.specs.declared.events.Answer as proposer-answer
-use Rattle.node.specs.Promises.{HeaderString, VoteString, GetParents, MissingPayload, Learn, Proposed}
+use Rattle.node.specs.Promises.{HeaderString, VoteString, CountVote, CountCertificate, GetParents, MissingPayload, Learn, Proposed}
 
 module _ (r : ℕ) (a : messages-answer.Answer) (e : r ≡ messages.codeOf a) where
   pub header-string : (header out : List ℕ) (at : ℕ) (out′ : List ℕ) → Written (mayHeader header out at) (headerString header) out at a out′ → HeaderString header out at r out′
@@ -33,3 +37,11 @@ module _ (r : ℕ) (a : synchronizer-answer.Answer) (e : r ≡ synchronizer.code
 
 pub proposed : (r : ℕ) (x : proposer-answer.Answer) (a : After) (state header : List ℕ) → r ≡ proposer.codeOf x → Left a x state header → Proposed a r state header
 proposed r x a state header e w = record { answer = e ∙ ap proposer.codeOf (w .answer); state-is = w .state; header-is = w .header }
+
+module _ (r : ℕ) (a : aggregators-answer.Answer) (e : r ≡ aggregators.codeOf a) where
+  pub count-vote : (members voters author voters′ : List ℕ) → CountsVote members voters author a voters′ → CountVote members voters author r voters′
+  count-vote members voters author voters′ w = record { answer = e ∙ ap aggregators.codeOf (w .answer); voters-are = w .voters }
+
+  pub count-certificate : (members counts : List ℕ) (round : ℕ) (origin digest out counts′ out′ : List ℕ) → CountsCertificate members counts round origin digest out a counts′ out′ → CountCertificate members counts round origin digest out r counts′ out′
+  count-certificate members counts round origin digest out counts′ out′ w =
+      record { answer = e ∙ ap aggregators.codeOf (w .answer); counts-are = w .counts; buffer = w .buffer }

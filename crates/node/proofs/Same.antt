@@ -9,7 +9,7 @@ use Rattle.checks.specs.Header.{headerCheck}
 use Rattle.checks.specs.Vote.{voteCheck}
 use Rattle.checks.specs.Certificate.{certificateCheck}
 use Rattle.proposer.specs.Events.{After}
-use Rattle.node.specs.Promises.{HeaderString, VoteString, GetParents, MissingPayload, Learn, Proposed}
+use Rattle.node.specs.Promises.{HeaderString, VoteString, CountVote, CountCertificate, GetParents, MissingPayload, Learn, Proposed}
 use Rattle.config.specs.Answers.{codeOf, committeeAnswer, setupAnswer, quorumAnswer, validityAnswer, stakeAnswer, workerAnswer, leaderAnswer}
 
 module _ (r s : ℕ) where
@@ -69,3 +69,11 @@ module _ (r s : ℕ) (members : List ℕ) where
 -- ---- the proposer: answer, state and header, of `tundrimela_proposer_start` and of `tundrimela_proposer_event`
 pub same-proposed : (a : After) (r s : ℕ) (t u g h : List ℕ) → Proposed a r t g → Proposed a s u h → (r ≡ s) × ((t ≡ u) × (g ≡ h))
 same-proposed a r s t u g h p q = (p .answer ∙ sym (q .answer), (p .state-is ∙ sym (q .state-is), p .header-is ∙ sym (q .header-is)))
+
+-- ---- aggregators
+pub same-count-vote : (members voters author : List ℕ) (r s : ℕ) (u v : List ℕ) → CountVote members voters author r u → CountVote members voters author s v → (r ≡ s) × (u ≡ v)
+same-count-vote members voters author r s u v p q = (p .answer ∙ sym (q .answer), p .voters-are ∙ sym (q .voters-are))
+
+pub same-count-certificate : (members counts : List ℕ) (round : ℕ) (origin digest out : List ℕ) (r s : ℕ) (t u v w : List ℕ) → CountCertificate members counts round origin digest out r t v → CountCertificate members counts round origin digest out s u w → (r ≡ s) × ((t ≡ u) × (v ≡ w))
+same-count-certificate members counts round origin digest out r s t u v w p q =
+    (p .answer ∙ sym (q .answer), (p .counts-are ∙ sym (q .counts-are), p .buffer ∙ sym (q .buffer)))

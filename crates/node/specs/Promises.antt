@@ -10,6 +10,9 @@ use Rattle.config.specs.Committee.{validMembers}
 use Rattle.messages.specs.Strings.{headerString, voteString}
 use Rattle.messages.specs.Answers.{writtenAnswer, writtenOut, mayHeader, mayVote}
 use Rattle.messages.specs.Answers as messages
+use Rattle.aggregators.specs.Votes.{countVote}
+use Rattle.aggregators.specs.Certificates.{countCertificate}
+use Rattle.aggregators.specs.Answers as aggregators
 use Rattle.synchronizer.specs.Payload.{pairsOf, missingPayload}
 use Rattle.synchronizer.specs.Answers.{outAs, lookable, missingOf, parentsAnswer, payloadShape, payloadAnswer, learnAnswer, learntTable}
 use Rattle.synchronizer.specs.Answers as synchronizer
@@ -25,6 +28,16 @@ pub record HeaderString (header out : List ℕ) (at r : ℕ) (out′ : List ℕ)
 pub record VoteString (id : List ℕ) (round : ℕ) (origin out : List ℕ) (at r : ℕ) (out′ : List ℕ) : Type 0 where
   pub answer : r ≡ messages.codeOf (writtenAnswer (mayVote id round origin out at) (voteString id round origin))
   pub buffer : out′ ≡ writtenOut (mayVote id round origin out at) out at (voteString id round origin)
+
+-- ---- aggregators
+pub record CountVote (members voters author : List ℕ) (r : ℕ) (voters′ : List ℕ) : Type 0 where
+  pub answer : r ≡ aggregators.codeOf (countVote members voters author .answer)
+  pub voters-are : voters′ ≡ countVote members voters author .voters
+
+pub record CountCertificate (members counts : List ℕ) (round : ℕ) (origin digest out : List ℕ) (r : ℕ) (counts′ out′ : List ℕ) : Type 0 where
+  pub answer : r ≡ aggregators.codeOf (countCertificate members counts round origin digest out .answer)
+  pub counts-are : counts′ ≡ countCertificate members counts round origin digest out .counts
+  pub buffer : out′ ≡ countCertificate members counts round origin digest out .out
 
 -- ---- synchronizer
 pub record GetParents (members genesis known header out : List ℕ) (r : ℕ) (out′ : List ℕ) : Type 0 where

@@ -3,5 +3,6 @@
 pub mod committee; // questions on a member list
 pub mod strings; // strings for hashing
 pub mod verdicts; // checks of header, vote and certificate
+pub mod count; // votes and certificates counted
 pub mod sync; // parents and payload, the known table
 pub mod propose; // the proposer's start and events
