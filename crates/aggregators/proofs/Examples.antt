@@ -10,7 +10,7 @@ use Rattle.table.specs.Rows.{countOf, places, shaped, rowsOf, pastOf, packed, a
 use Rattle.config.specs.Members.{membersOf, stakeIn, workerCount, lawful}
 use Rattle.config.specs.Committee.{total, quorum, validMembers, standingOf, stakeOf}
 use Rattle.config.specs.Sample.{idBytes, memberWith, membersWith}
-use Rattle.aggregators.specs.Weight.{isIn, enough, weightAfter, digestOf, gatheredAfter, reached}
+use Rattle.aggregators.specs.Weight.{isIn, enough, weighed, weightAfter, held, digestOf, gatheredAfter, reached}
 use Rattle.aggregators.specs.Listed.{listed, added}
 use Rattle.aggregators.specs.Votes.{votersOf, withVoter, areVoters, voteReaches, refuse, accept, countVote}
 use Rattle.aggregators.specs.Certificates.{pairsOf, withPair, emptyRow, ofRound, fewPairs, areCounts, gathered, rowReaches, given, placeIn, placeFor, Certified, stay, grow, certificateShape, countCertificate}
@@ -62,7 +62,7 @@ pub record Votes : Type 0 where
   pub nobody : countVote [] (0 ∷ []) [] .answer ≡ BadCommittee
 
 pub votes : Votes
-unfolding validMembers membersOf lawful stakeIn workerCount total quorum standingOf stakeOf sumOf allOf keyOf keys ascends ascendsFrom less alike part splice word bytes chunks items firstOf hasPart idBytes memberWith membersWith isIn enough weightAfter reached listed added votersOf withVoter areVoters voteReaches refuse accept countVote keysOf voters
+unfolding validMembers membersOf lawful stakeIn workerCount total quorum standingOf stakeOf sumOf allOf keyOf keys ascends ascendsFrom less alike part splice word bytes chunks items firstOf hasPart idBytes memberWith membersWith isIn enough weighed weightAfter reached listed added votersOf withVoter areVoters voteReaches refuse accept countVote keysOf voters
 votes =
     record {
       first = refl;
@@ -136,7 +136,7 @@ pub record Certificates : Type 0 where
   pub nobody : countCertificate [] [] 0 [] [] [] .answer ≡ BadCommittee
 
 pub certificates : Certificates
-unfolding validMembers membersOf lawful stakeIn workerCount total quorum standingOf stakeOf sumOf allOf keyOf keys ascends ascendsFrom less alike part splice word bytes chunks items flat firstOf hasPart idBytes memberWith membersWith isIn enough weightAfter digestOf gatheredAfter reached listed added countOf places shaped rowsOf pastOf packed appended withRow roundOf pairsOf withPair emptyRow ofRound fewPairs areCounts gathered rowReaches given placeIn placeFor stay grow certificateShape countCertificate pairs row table buffer
+unfolding validMembers membersOf lawful stakeIn workerCount total quorum standingOf stakeOf sumOf allOf keyOf keys ascends ascendsFrom less alike part splice word bytes chunks items flat firstOf hasPart idBytes memberWith membersWith isIn enough weighed weightAfter held digestOf gatheredAfter reached listed added countOf places shaped rowsOf pastOf packed appended withRow roundOf pairsOf withPair emptyRow ofRound fewPairs areCounts gathered rowReaches given placeIn placeFor stay grow certificateShape countCertificate pairs row table buffer
 certificates =
     record {
       first = refl;

@@ -21,7 +21,6 @@ use Rattle.aggregators.specs.declared.tally.Tally.{Tally}
 use Rattle.aggregators.specs.declared.answers.Answer.{Answer}
 use Rattle.aggregators.specs.declared.answers.Answer.the-variants.{Done, BadCommittee, BadShape, AuthorityReuse, NoRoom}
 use Rattle.aggregators.proofs.Weights.{keys-same, weight-is, weight-small}
-use Rattle.aggregators.proofs.Listing.{length-added, count-added, listed-added}
 
 -- ---- the numbers
 module _ (a : Answer) where
@@ -96,26 +95,6 @@ votes-small ms t w h e = rw e (weight-small ms (votersOf t) h)
 pub vote-reaches : (ms t author : List ℕ) (w : ℕ) (b : Bool) → w ≡ votesWeight ms t → b ≡ enough (quorumIn ms) w (stakeBy ms author) → b ≡ voteReaches ms t author
 unfolding votesWeight voteReaches reached
 vote-reaches ms t author w b e f = f ∙ rw e
-
--- ---- THE LIST OF VOTERS after a vote that is counted
-pub record OneMore (t author u : List ℕ) : Type 0 where
-  pub voters : votersOf u ≡ votersOf t ++ (author ∷ [])
-  pub count : voterCount u ≡ voterCount t + 1
-  pub shape : areVoters u ≡ true
-
-pub one-more : (t author : List ℕ) → areVoters t ≡ true → voterCount t < 32 → length author ≡ 32 → OneMore t author (withVoter t author)
-unfolding votersOf withVoter areVoters
-one-more t author h k l =
-    let v = are-voters t h in
-    let f : 1 + (getD t 0 0 + 1) * 32 ≤ length t = omega (arith, v .long) in
-    let n = count-added 0 1 32 t author (omega arith) l f in
-    let m = length-added 0 1 32 t author (omega arith) l f in
-    let c : voterCount (added 0 1 32 t author) ≤ 32 = omega arith in
-    record {
-      voters = listed-added 0 1 32 t author (omega arith) l f;
-      count = n;
-      shape = rw (eq-eqb (length (added 0 1 32 t author)) 1025 (m ∙ v .long), le-leb (voterCount (added 0 1 32 t author)) 32 c);
-    }
 
 -- ---- the call, one law for each way through it
 pub is-voters : (t : List ℕ) (b : Bool) → b ≡ areVoters t → not b ≡ false → areVoters t ≡ true

@@ -19,7 +19,7 @@ use Rattle.wire.proofs.Lists.{Sized, none, one, item-fits, item-is, item-length
 use Rattle.config.specs.Members.{membersOf, some}
 use Rattle.config.specs.Committee.{total, quorum, stakeOf, validMembers}
 use Rattle.config.proofs.Laws.{valid-weight}
-use Rattle.aggregators.specs.Weight.{quorumIn, stakeBy, isIn, enough, weightAfter, digestOf, gatheredAfter, reached}
+use Rattle.aggregators.specs.Weight.{quorumIn, stakeBy, isIn, enough, weighed, weightAfter, held, digestOf, gatheredAfter}
 use Rattle.aggregators.specs.Tallies.{fresh, counted, tallyAfter, digests}
 use Rattle.aggregators.specs.declared.tally.Tally.{Tally}
 
@@ -111,28 +111,28 @@ unfolding digests
 length-digests [] = refl
 length-digests (p ∷ ps) = ap suc (length-digests ps)
 
-weight-step : (q : ℕ) (stake : List ℕ → ℕ) (k : List ℕ) (ks : List (List ℕ)) (n : ℕ) (t : Tally) → weightAfter q stake (k ∷ ks) (t .weight) ≡ weightAfter q stake ks (counted q (stake k) n t .weight)
-unfolding weightAfter counted
-weight-step q stake k ks n t = go (enough q (t .weight) (stake k)) refl where
-  go : (b : Bool) → enough q (t .weight) (stake k) ≡ b → weightAfter q stake (k ∷ ks) (t .weight) ≡ weightAfter q stake ks (counted q (stake k) n t .weight)
-  go true e = rw (e, weightAfter, counted)
-  go false e = rw (e, weightAfter, counted)
+counted-weight : (q s next : ℕ) (t : Tally) → counted q s next t .weight ≡ weighed q (t .weight) s
+unfolding counted weighed
+counted-weight q s next t = go (enough q (t .weight) s) refl where
+  go : (b : Bool) → enough q (t .weight) s ≡ b → counted q s next t .weight ≡ weighed q (t .weight) s
+  go true e = rw (e, counted, weighed)
+  go false e = rw (e, counted, weighed)
 
 pub weight-is : (q : ℕ) (stake : List ℕ → ℕ) (ks : List (List ℕ)) (i : ℕ) (t : Tally) → tallyAfter q stake ks i t .weight ≡ weightAfter q stake ks (t .weight)
 unfolding tallyAfter weightAfter
 weight-is q stake [] i t = refl
-weight-is q stake (k ∷ ks) i t = weight-is q stake ks (suc i) (counted q (stake k) (suc i) t) ∙ sym (weight-step q stake k ks (suc i) t)
+weight-is q stake (k ∷ ks) i t = weight-is q stake ks (suc i) (counted q (stake k) (suc i) t) ∙ ap (weightAfter q stake ks) (counted-weight q (stake k) (suc i) t)
 
 -- the digests gathered are those from the place on: i keys, those of before, are counted already
-gathered-step : (q : ℕ) (stake : List ℕ → ℕ) (p : List ℕ) (ps before : List (List ℕ)) (i : ℕ) (t : Tally) → length before ≡ i → t .from ≤ i → gatheredAfter q stake (p ∷ ps) (t .weight) (digests (drop (t .from) before)) ≡ gatheredAfter q stake ps (counted q (stake (keyOf p)) (suc i) t .weight) (digests (drop (counted q (stake (keyOf p)) (suc i) t .from) (before ++ (p ∷ []))))
-unfolding gatheredAfter counted digests
-gathered-step q stake p ps before i t l h = go (enough q (t .weight) (stake (keyOf p))) refl where
+counted-held : (q s : ℕ) (p : List ℕ) (before : List (List ℕ)) (i : ℕ) (t : Tally) → length before ≡ i → t .from ≤ i → digests (drop (counted q s (suc i) t .from) (before ++ (p ∷ []))) ≡ held q (t .weight) s (digests (drop (t .from) before)) (digestOf p)
+unfolding counted held digests
+counted-held q s p before i t l h = go (enough q (t .weight) s) refl where
   all : drop (suc i) (before ++ (p ∷ [])) ≡ []
   all = drop-of-length-le (before ++ (p ∷ [])) {i = suc i} (omega (arith, length-append before (p ∷ [])))
 
-  go : (b : Bool) → enough q (t .weight) (stake (keyOf p)) ≡ b → gatheredAfter q stake (p ∷ ps) (t .weight) (digests (drop (t .from) before)) ≡ gatheredAfter q stake ps (counted q (stake (keyOf p)) (suc i) t .weight) (digests (drop (counted q (stake (keyOf p)) (suc i) t .from) (before ++ (p ∷ []))))
-  go true e = rw (e, gatheredAfter, counted, all)
-  go false e = rw (e, gatheredAfter, counted, drop-append-le (t .from) before (p ∷ []) (omega arith), digests-append)
+  go : (b : Bool) → enough q (t .weight) s ≡ b → digests (drop (counted q s (suc i) t .from) (before ++ (p ∷ []))) ≡ held q (t .weight) s (digests (drop (t .from) before)) (digestOf p)
+  go true e = rw (e, counted, held, all)
+  go false e = rw (e, counted, held, drop-append-le (t .from) before (p ∷ []) (omega arith), digests-append)
 
 counted-from : (q s i : ℕ) (t : Tally) → t .from ≤ i → counted q s (suc i) t .from ≤ suc i
 unfolding counted
@@ -145,9 +145,11 @@ gathered-go : (q : ℕ) (stake : List ℕ → ℕ) (ps before : List (List ℕ))
 unfolding tallyAfter gatheredAfter keys
 gathered-go q stake [] before i t l h = rw append-nil
 gathered-go q stake (p ∷ ps) before i t l h =
-    let u = counted q (stake (keyOf p)) (suc i) t in
-    rw (← append-snoc before p ps) (gathered-go q stake ps (before ++ (p ∷ [])) (suc i) u (length-append before (p ∷ []) ∙ omega arith) (counted-from q (stake (keyOf p)) i t h))
-    ∙ sym (gathered-step q stake p ps before i t l h)
+    let s = stake (keyOf p) in
+    let u = counted q s (suc i) t in
+    let a = append-snoc before p ps in
+    let r = gathered-go q stake ps (before ++ (p ∷ [])) (suc i) u (length-append before (p ∷ []) ∙ omega arith) (counted-from q s i t h) in
+    rw (← a, ← counted-weight q s (suc i) t, ← counted-held q s p before i t l h) r
 
 pub gathered-is : (q : ℕ) (stake : List ℕ → ℕ) (ps : List (List ℕ)) → digests (drop (tallyAfter q stake (keys ps) 0 fresh .from) ps) ≡ gatheredAfter q stake ps 0 []
 unfolding digests
@@ -163,13 +165,17 @@ pub from-is : (q : ℕ) (stake : List ℕ → ℕ) (ks : List (List ℕ)) → ta
 from-is q stake ks = let r = from-go q stake ks 0 fresh (omega arith) in omega arith
 
 -- ---- the weight stays below quorum
+weighed-below : (q w s : ℕ) → w < q → weighed q w s < q
+unfolding weighed enough
+weighed-below q w s h = go (leb q (w + s)) refl where
+  go : (b : Bool) → leb q (w + s) ≡ b → weighed q w s < q
+  go true e = rw (e, weighed) (omega arith)
+  go false e = rw (e, weighed) (leb-false q (w + s) e)
+
 weight-below : (q : ℕ) (stake : List ℕ → ℕ) (ks : List (List ℕ)) (w : ℕ) → w < q → weightAfter q stake ks w < q
-unfolding weightAfter enough
+unfolding weightAfter
 weight-below q stake [] w h = h
-weight-below q stake (k ∷ ks) w h = go (weight-below q stake ks) (leb q (w + stake k)) refl where
-  go : ((v : ℕ) → v < q → weightAfter q stake ks v < q) → (b : Bool) → leb q (w + stake k) ≡ b → weightAfter q stake (k ∷ ks) w < q
-  go f true e = rw (e, weightAfter) (f 0 (omega arith))
-  go f false e = rw (e, weightAfter) (f (w + stake k) (leb-false q (w + stake k) e))
+weight-below q stake (k ∷ ks) w h = weight-below q stake ks (weighed q w (stake k)) (weighed-below q w (stake k) h)
 
 pub weight-small : (ms : List ℕ) (ks : List (List ℕ)) → validMembers ms ≡ true → weightAfter (quorumIn ms) (stakeBy ms) ks 0 ≤ 4294967295
 unfolding quorum
@@ -180,6 +186,22 @@ weight-small ms ks h =
 pub enough-is : (ms key : List ℕ) (w q s : ℕ) → q ≡ quorum (total (membersOf ms)) → s ≡ stakeOf (membersOf ms) key → leb q (w + s) ≡ enough (quorumIn ms) w (stakeBy ms key)
 unfolding enough
 enough-is ms key w q s a b = rw (a, b)
+
+-- ---- one key more, behind the others
+pub weight-more : (q : ℕ) (stake : List ℕ → ℕ) (ks : List (List ℕ)) (k : List ℕ) (w : ℕ) → weightAfter q stake (ks ++ (k ∷ [])) w ≡ weighed q (weightAfter q stake ks w) (stake k)
+unfolding weightAfter
+weight-more q stake [] k w = refl
+weight-more q stake (x ∷ ks) k w = weight-more q stake ks k (weighed q w (stake x))
+
+pub gathered-more : (q : ℕ) (stake : List ℕ → ℕ) (ps : List (List ℕ)) (p : List ℕ) (w : ℕ) (ds : List (List ℕ)) → gatheredAfter q stake (ps ++ (p ∷ [])) w ds ≡ held q (weightAfter q stake (keys ps) w) (stake (keyOf p)) (gatheredAfter q stake ps w ds) (digestOf p)
+unfolding weightAfter gatheredAfter keys
+gathered-more q stake [] p w ds = refl
+gathered-more q stake (x ∷ ps) p w ds = gathered-more q stake ps p (weighed q w (stake (keyOf x))) (held q w (stake (keyOf x)) ds (digestOf x))
+
+pub keys-more : (rs : List (List ℕ)) (r : List ℕ) → keys (rs ++ (r ∷ [])) ≡ keys rs ++ (keyOf r ∷ [])
+unfolding keys
+keys-more [] r = refl
+keys-more (x ∷ rs) r = ap (λ (z : List (List ℕ)). keyOf x ∷ z) (keys-more rs r)
 
 -- items of 32 bytes are their keys
 pub keys-same : (rs : List (List ℕ)) → Sized 32 rs → keys rs ≡ rs

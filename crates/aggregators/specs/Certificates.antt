@@ -11,7 +11,7 @@ use Rattle.wire.specs.declared.Found.{Found}
 use Rattle.wire.specs.declared.Found.the-variants.{At, Nothing}
 use Rattle.table.specs.Rows.{countOf, places, shaped, rowsOf, appended, withRow, roundOf}
 use Rattle.config.specs.Committee.{validMembers}
-use Rattle.aggregators.specs.Weight.{quorumIn, stakeBy, isIn, gatheredAfter, reached}
+use Rattle.aggregators.specs.Weight.{quorumIn, stakeBy, isIn, weighed, weightAfter, held, gatheredAfter, reached}
 use Rattle.aggregators.specs.Tallies.{digests}
 use Rattle.aggregators.specs.Listed.{listed, added}
 use Rattle.aggregators.specs.declared.answers.Answer.{Answer}
@@ -45,6 +45,9 @@ areCounts t = shaped 2053 t && allOf fewPairs (rowsOf 2053 t)
 -- ---- the digests gathered, and given: all of them and the new one, at quorum
 unfoldable pub gathered : List ℕ → List ℕ → List (List ℕ)
 gathered ms row = gatheredAfter (quorumIn ms) (stakeBy ms) (pairsOf row) 0 []
+
+unfoldable pub rowWeight : List ℕ → List ℕ → ℕ
+rowWeight ms row = weightAfter (quorumIn ms) (stakeBy ms) (keys (pairsOf row)) 0
 
 unfoldable pub rowReaches : List ℕ → List ℕ → List ℕ → Bool
 rowReaches ms row origin = reached (quorumIn ms) (stakeBy ms) (keys (pairsOf row)) origin
@@ -115,6 +118,14 @@ pub record CountsCertificate (ms t : List ℕ) (round : ℕ) (origin digest out 
   pub answer : a ≡ countCertificate ms t round origin digest out .answer
   pub counts : u ≡ countCertificate ms t round origin digest out .counts
   pub buffer : o ≡ countCertificate ms t round origin digest out .out
+
+-- A ROW AS A LIST after a certificate that is counted: a pair more, at the end; at quorum the weight goes to 0 and the digests gathered are
+-- emptied. v is withPair row origin digest
+pub record PairMore (ms row origin digest v : List ℕ) : Type 0 where
+  pub pairs : pairsOf v ≡ pairsOf row ++ ((origin ++ digest) ∷ [])
+  pub round : roundOf v ≡ roundOf row
+  pub weight : rowWeight ms v ≡ weighed (quorumIn ms) (rowWeight ms row) (stakeBy ms origin)
+  pub digests : gathered ms v ≡ held (quorumIn ms) (rowWeight ms row) (stakeBy ms origin) (gathered ms row) digest
 
 -- what giving answers and leaves: n digests, the buffer o
 pub record Gives (ds : List (List ℕ)) (out : List ℕ) (n : ℕ) (o : List ℕ) : Type 0 where

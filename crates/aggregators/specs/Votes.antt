@@ -2,11 +2,11 @@
 use Prim.Native.Nat.{ℕ}
 use mathlib.Core.Path.{_≡_}
 use mathlib.Core.Bool.{Bool, true, false, _&&_}
-use mathlib.Core.List.{List}
+use mathlib.Core.List.{List, [], _∷_, _++_}
 use lib.ListN.{length, getD}
 use lib.Dec.{eqb, leb}
 use Rattle.config.specs.Committee.{validMembers}
-use Rattle.aggregators.specs.Weight.{quorumIn, stakeBy, isIn, weightAfter, reached}
+use Rattle.aggregators.specs.Weight.{quorumIn, stakeBy, isIn, weighed, weightAfter, reached}
 use Rattle.aggregators.specs.Listed.{listed, added}
 use Rattle.aggregators.specs.declared.answers.Answer.{Answer}
 use Rattle.aggregators.specs.declared.answers.Answer.the-variants.{Done, BadCommittee, BadShape, AuthorityReuse, NoRoom}
@@ -63,3 +63,9 @@ countVote ms t author =
 pub record CountsVote (ms t author : List ℕ) (a : Answer) (u : List ℕ) : Type 0 where
   pub answer : a ≡ countVote ms t author .answer
   pub voters : u ≡ countVote ms t author .voters
+
+-- THE VOTERS AS A LIST after a vote that is counted: one more, at the end; at quorum the weight goes to 0. u is withVoter t author
+pub record OneMore (ms t author u : List ℕ) : Type 0 where
+  pub voters : votersOf u ≡ votersOf t ++ (author ∷ [])
+  pub weight : votesWeight ms u ≡ weighed (quorumIn ms) (votesWeight ms t) (stakeBy ms author)
+  pub shape : areVoters u ≡ true

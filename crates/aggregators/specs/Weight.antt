@@ -24,23 +24,27 @@ isIn key counted = some (firstOf (hasPart 0 key) counted 0)
 unfoldable pub enough : ℕ → ℕ → ℕ → Bool
 enough q w s = leb q (w + s)
 
--- when weight reaches quorum it goes to 0
+-- a stake more: when weight reaches quorum it goes to 0
+unfoldable pub weighed : ℕ → ℕ → ℕ → ℕ
+weighed q w s = elim (enough q w s) [ true ↦ 0 | false ↦ w + s ]
+
+-- the weight after these keys
 unfoldable pub weightAfter : ℕ → (List ℕ → ℕ) → List (List ℕ) → ℕ → ℕ
 weightAfter q stake [] w = w
-weightAfter q stake (k ∷ ks) w =
-    elim (enough q w (stake k)) [ true ↦ weightAfter q stake ks 0 | false ↦ weightAfter q stake ks (w + stake k) ]
+weightAfter q stake (k ∷ ks) w = weightAfter q stake ks (weighed q w (stake k))
 
--- the same over pairs of an origin and a digest, with the digests gathered: ds so far, emptied when weight reaches quorum
+-- a digest more: when weight reaches quorum the digests gathered, ds and this one, are given and emptied
+unfoldable pub held : ℕ → ℕ → ℕ → List (List ℕ) → List ℕ → List (List ℕ)
+held q w s ds d = elim (enough q w s) [ true ↦ [] | false ↦ ds ++ (d ∷ []) ]
+
+-- the digests gathered after these pairs of an origin's key and a digest
 unfoldable pub digestOf : List ℕ → List ℕ
 digestOf pair = part pair 32 32
 
 unfoldable pub gatheredAfter : ℕ → (List ℕ → ℕ) → List (List ℕ) → ℕ → List (List ℕ) → List (List ℕ)
 gatheredAfter q stake [] w ds = ds
 gatheredAfter q stake (p ∷ ps) w ds =
-    elim (enough q w (stake (keyOf p))) [
-      | true ↦ gatheredAfter q stake ps 0 []
-      | false ↦ gatheredAfter q stake ps (w + stake (keyOf p)) (ds ++ (digestOf p ∷ []))
-    ]
+    gatheredAfter q stake ps (weighed q w (stake (keyOf p))) (held q w (stake (keyOf p)) ds (digestOf p))
 
 -- whether a key that is counted behind these reaches quorum
 unfoldable pub reached : ℕ → (List ℕ → ℕ) → List (List ℕ) → List ℕ → Bool

@@ -1,4 +1,4 @@
--- P1 to P7 OF DOCUMENT 01: every line of the table of `specs/Cases.antt` holds. By computation: a test compares the two sides of each line, and a
+-- P1 to P11 OF DOCUMENT 01: every line of the table of `specs/Cases.antt` holds. By computation: a test compares the two sides of each line, and a
 -- test that says yes is an equality. Assumes nothing.
 use mathlib.Core.Path.{_≡_, refl, sym}
 use mathlib.Core.Bool.{Bool, true, false}
@@ -8,10 +8,15 @@ use Rattle.wire.specs.Bytes.{part, alike, less, word, bytes}
 use Rattle.wire.specs.Items.{chunks, items, firstOf, hasPart, sumOf, allOf, keyOf, keys, ascends, ascendsFrom}
 use Rattle.wire.proofs.Laws.{alike-true, true-not-false}
 use Rattle.config.specs.Members.{membersOf, stakeIn, workerCount, lawful}
-use Rattle.config.specs.Committee.{total, quorum, validity, validMembers}
+use Rattle.config.specs.Committee.{total, quorum, validity, validMembers, leaderPlace}
 use Rattle.config.specs.Answers.{ofMembers, quorumAnswer, validityAnswer}
 use Rattle.config.specs.Sample.{idBytes, memberWith, membersWith}
-use Rattle.demands.specs.Cases.{Case, Holds, none, one, said, thresholds, cases}
+use Rattle.consensus.specs.Table.{fresh}
+use Rattle.consensus.specs.Candidates.{edition1}
+use Rattle.consensus.specs.Order.{calls}
+use Rattle.consensus.specs.Sample.{four, all4, at, by, round, run8, rest9, rest10, run11, saidBy, saidAll, silent, lists}
+use Rattle.consensus.specs.Sample as sample
+use Rattle.demands.specs.Cases.{Case, Holds, none, one, said, thresholds, ordering, said8, said10, said11, cases}
 
 right : List Case → Bool
 right [] = true
@@ -26,7 +31,7 @@ right-holds (c ∷ cs) e = go (right-holds cs) (alike (c .computed) (c .expected
   go h false q e = absurd (true-not-false (sym (rw (q, right) at e)))
 
 computed : right cases ≡ true
-unfolding right cases thresholds idBytes memberWith membersWith said alike part less word bytes chunks items sumOf allOf keyOf keys ascends ascendsFrom membersOf stakeIn workerCount lawful total quorum validity validMembers ofMembers quorumAnswer validityAnswer
+unfolding right cases thresholds idBytes memberWith membersWith said alike part less word bytes chunks items sumOf allOf keyOf keys ascends ascendsFrom membersOf stakeIn workerCount lawful total quorum validity validMembers ofMembers quorumAnswer validityAnswer ordering said8 said10 said11 sample.said saidBy saidAll silent lists four all4 at by round run8 rest9 rest10 run11 fresh calls edition1 leaderPlace
 computed = refl
 
 pub document : Holds cases

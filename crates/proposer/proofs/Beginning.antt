@@ -7,13 +7,13 @@ use native.Mathlib.Numerals.{add-one}
 use native.Mathlib.Nat.{div-mul-le-self}
 use native.Mathlib.Omega.{arith}
 use lib.Dec.{eqb, leb}
-use lib.ListN.{length, getD, take, drop, getD-replicate, length-append}
+use lib.ListN.{length, getD, take, getD-replicate}
 use lib.Seq.{take-suc, take-all, length-take-le}
 use borrow.Author.Tests.{eq-eqb, ne-eqb, eqb-true, le-leb, lt-leb, not-true, not-false}
 use Rattle.wire.specs.Bytes.{splice}
 use Rattle.wire.specs.Items.{items, itemIn, flat}
 use Rattle.wire.proofs.Laws.{length-splice}
-use Rattle.wire.proofs.Lists.{Sized, none, one, sized-at, sized-take, length-items, items-sized, item-fits, item-is, item-length, length-flat, flat-append, flat-one}
+use Rattle.wire.proofs.Lists.{Sized, none, one, sized-take, length-items, items-sized, item-fits, item-is, item-length, length-flat, flat-append, flat-one}
 use Rattle.config.specs.Members.{membersOf}
 use Rattle.config.specs.Committee.{validMembers, standingOf}
 use Rattle.config.specs.declared.committee.Standing.{Standing}
@@ -22,10 +22,10 @@ use Rattle.config.proofs.Laws.{valid}
 use Rattle.genesis.specs.Genesis.{recordDigest, recordsOf, validGenesis}
 use Rattle.genesis.proofs.Laws.{valid-genesis, digest-length}
 use Rattle.proposer.specs.State.{zeros, waitingCount, validState, nextRound, advanced}
-use Rattle.proposer.specs.Events.{After, Left, kept, settled}
+use Rattle.proposer.specs.Events.{Left, settled}
 use Rattle.proposer.specs.Start.{digestsIn, started, validStart, startAfter}
 use Rattle.proposer.specs.declared.events.Answer.{Answer}
-use Rattle.proposer.specs.declared.events.Answer.the-variants.{Done, BadCommittee, BadShape, NoRoom}
+use Rattle.proposer.specs.declared.events.Answer.the-variants.{BadCommittee, BadShape}
 use Rattle.proposer.proofs.Splices.{splice-none, splice-join, get-after}
 use Rattle.proposer.proofs.Values.{and-left, and-right}
 use Rattle.proposer.proofs.Making.{length-zeros, all-zeros}

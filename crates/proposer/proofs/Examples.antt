@@ -1,16 +1,21 @@
--- The definitions of `specs/` run: order, size, events, with document 01's bounds. Assumes nothing.
+-- The definitions of `specs/` run: order, size, events, with document 01's bounds. The laws' files bring this one, so that a definition is held to its cases
+-- first. Assumes nothing.
 use mathlib.Core.Path.{_≡_, refl}
 use mathlib.Core.Bool.{true, false}
 use mathlib.Core.List.{List, [], _∷_, _++_}
 use Prim.Native.Nat.{ℕ, _+_}
-use lib.ListN.{replicate, getD}
+use lib.ListN.{replicate}
 use Rattle.wire.specs.Bytes.{part, alike, less, splice, word, bytes}
-use Rattle.wire.specs.Items.{chunks, items, flat, keyOf}
+use Rattle.wire.specs.Items.{chunks, items, flat, keyOf, keys, ascends, ascendsFrom, firstOf, hasPart, sumOf, allOf}
+use Rattle.config.specs.Members.{membersOf, stakeIn, workerCount, lawful}
+use Rattle.config.specs.Committee.{total, validMembers, standingOf}
+use Rattle.genesis.specs.Genesis.{recordRound, recordOrigin, recordDigest, recordsOf, belongs, paired, distinct, validGenesis}
 use Rattle.proposer.specs.Sorted.{notBelow, putIn, sortedFrom, sortedOnce}
 use Rattle.proposer.specs.State.{zeros, ownIn, roundIn, parentCount, waitingCount, parentsIn, waitingIn, payloadSize, validState, dueHeader, nextRound, advanced, added, emptied, digestsOf}
 use Rattle.proposer.specs.Header.{withList, headerOf, headerMade}
 use Rattle.proposer.specs.Events.{After, settled, received, validParents, parentsAfter, validDigest, digestAfter, validCall, byTag, eventAfter}
-use Rattle.proposer.specs.declared.events.Answer.the-variants.{Done, BadShape, NoRoom}
+use Rattle.proposer.specs.Start.{digestsIn, started, validStart, startAfter}
+use Rattle.proposer.specs.declared.events.Answer.the-variants.{Done, BadCommittee, BadShape, NoRoom}
 
 -- a digest, and one with a worker id
 abbrev digest : ℕ → List ℕ
@@ -59,7 +64,7 @@ pub record States : Type 0 where
   pub round-0 : validState (zeros 3366) ≡ false
 
 pub states : States
-unfolding zeros splice part word bytes chunks items flat roundIn parentCount waitingCount parentsIn waitingIn payloadSize validState dueHeader nextRound advanced added emptied
+unfolding zeros splice part word bytes chunks items flat less alike keyOf notBelow putIn sortedFrom sortedOnce roundIn parentCount waitingCount parentsIn waitingIn payloadSize validState dueHeader nextRound advanced added emptied
 states =
     record {
       valid = refl;
@@ -138,4 +143,46 @@ told =
       for-round = refl;
       parents = refl;
       payload = refl;
+    }
+
+-- one member without workers, and its genesis
+abbrev member : List ℕ
+member = digest 9 ++ (bytes 4 1 ++ (0 ∷ replicate 32 0))
+
+abbrev genesis : List ℕ
+genesis = bytes 4 0 ++ (digest 9 ++ digest 5)
+
+abbrev start : List ℕ → List ℕ → List ℕ → ℕ → After
+start members own records size = startAfter members own records size 0 (replicate 3366 7) (replicate 3402 7)
+
+pub record Starts : Type 0 where
+  pub at-once : start member (digest 9) genesis 0 .answer ≡ Done 1
+  pub round-1 : roundIn (start member (digest 9) genesis 0 .state) ≡ 1
+  pub header : items 32 (start member (digest 9) genesis 0 .header) 74 1 ≡ digest 5 ∷ []
+  pub waits : start member (digest 9) genesis 1 .answer ≡ Done 0
+  pub genesis-parents : parentsIn (start member (digest 9) genesis 1 .state) ≡ digest 5 ∷ []
+  pub none-waiting : waitingIn (start member (digest 9) genesis 1 .state) ≡ []
+  pub stranger : start member (digest 8) genesis 0 .answer ≡ BadCommittee
+  pub own-cut : start member (replicate 31 9) genesis 0 .answer ≡ BadShape
+  pub both-wrong : start [] (replicate 31 9) genesis 0 .answer ≡ BadCommittee
+  pub other-genesis : start member (digest 9) (bytes 4 0 ++ (digest 8 ++ digest 5)) 0 .answer ≡ BadShape
+  pub genesis-round-1 : start member (digest 9) (bytes 4 1 ++ (digest 9 ++ digest 5)) 0 .answer ≡ BadShape
+  pub no-genesis : start member (digest 9) [] 0 .answer ≡ BadShape
+
+pub starts : Starts
+unfolding zeros splice part word bytes chunks items flat less alike keyOf keys ascends ascendsFrom firstOf hasPart sumOf allOf notBelow putIn sortedFrom sortedOnce ownIn roundIn parentCount waitingCount parentsIn waitingIn payloadSize dueHeader nextRound advanced emptied withList headerOf headerMade settled membersOf stakeIn workerCount lawful total validMembers standingOf recordRound recordOrigin recordDigest recordsOf belongs paired distinct validGenesis digestsIn started validStart startAfter
+starts =
+    record {
+      at-once = refl;
+      round-1 = refl;
+      header = refl;
+      waits = refl;
+      genesis-parents = refl;
+      none-waiting = refl;
+      stranger = refl;
+      own-cut = refl;
+      both-wrong = refl;
+      other-genesis = refl;
+      genesis-round-1 = refl;
+      no-genesis = refl;
     }

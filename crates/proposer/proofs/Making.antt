@@ -1,13 +1,12 @@
 -- The laws of `specs/Header.antt`: the writes in a row are the header. Assumes nothing.
-use mathlib.Core.Path.{_≡_, refl, sym, ap, _∙_}
-use mathlib.Core.Bool.{Bool, true, false}
-use mathlib.Core.List.{List, [], _∷_, _++_, append-nil}
-use Prim.Native.Nat.{ℕ, zero, suc, _+_, _-_, _*_, _≤_, _<_}
-use native.Mathlib.Nat.{zero-add}
+use mathlib.Core.Path.{_≡_, _∙_}
+use mathlib.Core.Bool.{true}
+use mathlib.Core.List.{List, [], _∷_, append-nil}
+use Prim.Native.Nat.{ℕ, _+_, _-_, _*_, _≤_, _<_}
 use native.Mathlib.Omega.{arith}
-use lib.ListN.{length, getD, take, drop, replicate, length-replicate, drop-of-length-le}
-use Rattle.wire.specs.Bytes.{part, splice, word, bytes}
-use Rattle.wire.specs.Items.{items, flat}
+use lib.ListN.{length, take, length-replicate, drop-of-length-le}
+use Rattle.wire.specs.Bytes.{part, splice, bytes}
+use Rattle.wire.specs.Items.{items}
 use Rattle.wire.proofs.Lists.{length-items}
 use Rattle.proposer.specs.Sorted.{putIn, sortedFrom, sortedOnce, Laid}
 use Rattle.proposer.specs.State.{zeros, ownIn, roundIn, parentCount, waitingCount, parentsIn, waitingIn, validState}

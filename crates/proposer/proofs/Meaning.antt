@@ -1,22 +1,21 @@
 -- WHAT EACH STEP LEAVES, as values: own key, round, parents and waiting digests of the state after it. Assumes nothing.
 use mathlib.Core.Path.{_≡_, refl, sym, ap, _∙_}
-use mathlib.Core.Bool.{Bool, true, false, _&&_}
+use mathlib.Core.Bool.{true}
 use mathlib.Core.List.{List, [], _∷_, _++_}
-use Prim.Native.Nat.{ℕ, zero, suc, _+_, _-_, _*_, _/_, _%_, _≤_, _<_, _^_}
-use native.Mathlib.Nat.{zero-mul, suc-mul, zero-add, div-mul-le-self}
+use Prim.Native.Nat.{ℕ, zero, suc, _+_, _-_, _*_, _/_, _≤_, _<_}
+use native.Mathlib.Nat.{suc-mul, zero-add, div-mul-le-self}
 use native.Mathlib.Omega.{arith}
-use lib.Dec.{eqb, ltb, leb}
-use lib.ListN.{length, getD, take, drop, length-append, length-replicate, getD-replicate}
-use lib.Seq.{take-nil, take-take, take-add, drop-drop, take-append-seam, drop-append-seam, length-take-le}
+use lib.ListN.{length, getD, take, drop, length-append, getD-replicate}
+use lib.Seq.{take-nil, take-take}
 use borrow.Author.Tests.{eq-eqb, le-leb}
 use Rattle.wire.specs.Bytes.{part, splice, word, bytes}
 use Rattle.wire.specs.Items.{chunks, items, flat}
-use Rattle.wire.proofs.Laws.{length-part, getD-part, length-bytes, word-bytes, length-splice, part-splice, part-splice-before, part-splice-after}
-use Rattle.wire.proofs.Lists.{Sized, none, one, sized-append, length-items, items-sized, length-flat, flat-append, flat-one, next-mul}
+use Rattle.wire.proofs.Laws.{getD-part, length-bytes, word-bytes, length-splice, part-splice, part-splice-before, part-splice-after}
+use Rattle.wire.proofs.Lists.{Sized, none, one, sized-append, length-items, items-sized, length-flat, flat-append, flat-one}
 use Rattle.proposer.specs.State.{zeros, ownIn, roundIn, parentCount, waitingCount, parentsIn, waitingIn, validState, nextRound, advanced, added, emptied, digestsOf}
 use Rattle.proposer.proofs.Splices.{get-before, get-after, get-at, splice-left}
 use Rattle.proposer.proofs.Order.{flat-items, items-laid}
-use Rattle.proposer.proofs.Values.{IsState, is-state, flat-digests, length-digests}
+use Rattle.proposer.proofs.Values.{IsState, is-state}
 use Rattle.proposer.proofs.Making.{length-zeros}
 
 -- a state by its four facts
@@ -42,7 +41,7 @@ chunks-take size xs (suc n) =
     let l : size ≤ size + n * size = omega arith in
     rw (q, take-take size (size + n * size) xs l, drop-take size (n * size) xs, chunks-take size (drop size xs) n)
 
-items-same : (size at n : ℕ) (xs ys : List ℕ) → part xs at (n * size) ≡ part ys at (n * size) → items size xs at n ≡ items size ys at n
+pub items-same : (size at n : ℕ) (xs ys : List ℕ) → part xs at (n * size) ≡ part ys at (n * size) → items size xs at n ≡ items size ys at n
 unfolding items part
 items-same size at n xs ys e = sym (chunks-take size (drop at xs) n) ∙ ap (λ (z : List ℕ). chunks size z n) e ∙ chunks-take size (drop at ys) n
 

@@ -1,17 +1,15 @@
 -- The laws of `specs/Events.antt`, one for each way through a function: what it gives back and leaves is what the definition says. Assumes nothing.
-use mathlib.Core.Path.{_≡_, refl, sym, ap, _∙_}
+use mathlib.Core.Path.{_≡_, refl, sym, _∙_}
 use mathlib.Core.Bool.{Bool, true, false, not, _&&_}
-use mathlib.Core.List.{List, [], _∷_, _++_}
-use Prim.Native.Nat.{ℕ, _+_, _-_, _*_, _/_, _%_, _≤_, _<_}
-use native.Mathlib.Nat.{div-mul-le-self}
+use mathlib.Core.List.{List}
+use Prim.Native.Nat.{ℕ, _-_, _*_, _/_, _%_, _≤_, _<_}
 use native.Mathlib.Omega.{arith}
-use lib.Dec.{eqb, ltb, leb}
+use lib.Dec.{eqb, leb}
 use lib.ListN.{length}
-use borrow.Author.Tests.{eq-eqb, ne-eqb, eqb-true, le-ltb, lt-ltb, leb-true, le-leb, lt-leb, not-true, not-false}
-use Rattle.wire.proofs.Lists.{Sized, items-sized}
+use borrow.Author.Tests.{eq-eqb, ne-eqb, eqb-true, le-ltb, lt-ltb, le-leb, lt-leb, not-true, not-false}
 use Rattle.proposer.specs.State.{roundIn, waitingCount, validState, dueHeader, digestsOf, advanced, added, emptied}
 use Rattle.proposer.specs.Header.{headerMade}
-use Rattle.proposer.specs.Events.{codeOf, After, Left, kept, settled, received, validParents, parentsAfter, validDigest, digestAfter, validCall, byTag, eventAfter}
+use Rattle.proposer.specs.Events.{codeOf, Left, settled, received, validParents, parentsAfter, validDigest, digestAfter, validCall, byTag, eventAfter}
 use Rattle.proposer.specs.declared.events.Answer.{Answer}
 use Rattle.proposer.specs.declared.events.Answer.the-variants.{Done, BadCommittee, BadShape, NoRoom}
 use Rattle.proposer.proofs.Values.{and-left, and-right, is-state, state-size, length-digests}

@@ -1,11 +1,11 @@
 -- Splices: two that touch, one over another, and one widened by what stands beside it. Assumes nothing.
 use mathlib.Core.Path.{_≡_, refl, sym, ap, _∙_}
 use mathlib.Core.List.{List, [], _∷_, _++_, append-assoc}
-use Prim.Native.Nat.{ℕ, suc, _+_, _-_, _≤_, _<_}
-use native.Mathlib.Nat.{add-assoc, add-zero}
+use Prim.Native.Nat.{ℕ, _+_, _-_, _≤_, _<_}
+use native.Mathlib.Nat.{add-zero}
 use native.Mathlib.Omega.{arith}
-use lib.ListN.{length, getD, set, take, drop, length-append, length-take, length-drop, length-set, take-append-drop}
-use lib.Seq.{take-at, drop-at, take-take, take-append-le, drop-append-add, length-take-le, drop-drop, take-add}
+use lib.ListN.{length, getD, set, take, drop, length-append, length-set, take-append-drop}
+use lib.Seq.{take-at, drop-append-add, length-take-le, drop-drop, take-add}
 use Rattle.wire.specs.Bytes.{part, splice}
 use Rattle.wire.proofs.Laws.{part-cons, part-none, length-part, length-splice, part-at, part-splice, part-splice-before, part-splice-after, part-first, splice-one}
 

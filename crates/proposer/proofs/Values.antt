@@ -1,18 +1,19 @@
 -- The laws of `specs/State.antt`: the tests one after the other, and what each step's writes come to. Assumes nothing.
-use mathlib.Core.Path.{_≡_, refl, sym, ap, _∙_}
-use mathlib.Core.Bool.{Bool, true, false, not, _&&_, _||_}
+use mathlib.Core.Path.{_≡_, refl, sym, _∙_}
+use mathlib.Core.Bool.{Bool, true, false, _&&_}
 use mathlib.Core.List.{List, [], _∷_, _++_}
-use Prim.Native.Nat.{ℕ, zero, suc, _+_, _-_, _*_, _/_, _%_, _≤_, _<_}
-use native.Mathlib.Nat.{div-add-mod', zero-add}
+use Prim.Native.Nat.{ℕ, _+_, _-_, _*_, _/_, _%_, _≤_, _<_}
+use native.Mathlib.Nat.{div-add-mod'}
 use native.Mathlib.Omega.{arith}
 use lib.Dec.{eqb, ltb, leb}
-use lib.ListN.{length, getD, replicate}
+use lib.ListN.{length}
 use borrow.Author.Tests.{eq-eqb, ne-eqb, eqb-true, le-ltb, lt-ltb, leb-true, le-leb, lt-leb}
-use Rattle.wire.specs.Bytes.{part, splice, word, bytes}
+use Rattle.wire.specs.Bytes.{splice, bytes}
 use Rattle.wire.specs.Items.{items, flat}
-use Rattle.wire.proofs.Laws.{part-all, length-bytes, length-splice, true-not-false}
+use Rattle.wire.proofs.Laws.{part-all, length-bytes, true-not-false}
 use Rattle.wire.proofs.Lists.{length-items}
-use Rattle.proposer.specs.State.{zeros, ownIn, roundIn, parentCount, waitingCount, parentsIn, waitingIn, payloadSize, validState, dueHeader, nextRound, advanced, added, emptied, digestsOf}
+use Rattle.proposer.specs.State.{zeros, roundIn, parentCount, waitingCount, parentsIn, waitingIn, payloadSize, validState, dueHeader, nextRound, advanced, added, digestsOf}
+use Rattle.proposer.proofs.Examples.{states}
 use Rattle.proposer.proofs.Splices.{splice-join}
 use Rattle.proposer.proofs.Order.{flat-items}
 

@@ -6,7 +6,7 @@ use mathlib.Core.Bool.{Bool, true, false, _&&_}
 use mathlib.Core.List.{List}
 use lib.ListN.{length}
 use lib.Dec.{eqb, ltb, leb}
-use Rattle.proposer.specs.State.{roundIn, waitingCount, waitingIn, validState, dueHeader, digestsOf, advanced, added, emptied}
+use Rattle.proposer.specs.State.{roundIn, waitingCount, validState, dueHeader, digestsOf, advanced, added, emptied}
 use Rattle.proposer.specs.Header.{headerMade}
 use Rattle.proposer.specs.declared.events.Answer.{Answer}
 use Rattle.proposer.specs.declared.events.Answer.the-variants.{Done, BadCommittee, BadShape, NoRoom}

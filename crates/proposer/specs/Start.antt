@@ -7,13 +7,11 @@ use lib.Dec.{eqb, leb}
 use Rattle.wire.specs.Bytes.{splice}
 use Rattle.config.specs.Members.{membersOf}
 use Rattle.config.specs.Committee.{validMembers, standingOf}
-use Rattle.config.specs.declared.committee.Standing.{Standing}
 use Rattle.config.specs.declared.committee.Standing.the-variants.{Member, Stranger}
 use Rattle.genesis.specs.Genesis.{recordDigest, recordsOf, validGenesis}
 use Rattle.proposer.specs.State.{zeros, advanced}
 use Rattle.proposer.specs.Events.{After, kept, settled}
-use Rattle.proposer.specs.declared.events.Answer.{Answer}
-use Rattle.proposer.specs.declared.events.Answer.the-variants.{Done, BadCommittee, BadShape, NoRoom}
+use Rattle.proposer.specs.declared.events.Answer.the-variants.{BadCommittee, BadShape}
 
 -- the digest of each record
 unfoldable pub digestsIn : List (List ℕ) → List (List ℕ)

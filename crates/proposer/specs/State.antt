@@ -1,7 +1,7 @@
 -- The proposer's state, and what each step leaves in it: document 01, 'proposer'. Own key 32 bytes, round 4 from 32, parent count at 36, waiting count at
 -- 37, parents 32 each from 38 as given, waiting digests with their worker ids, 36 each, from 1062 in the order in which they came. Assumes nothing.
 use Prim.Native.Nat.{ℕ, _+_, _*_, _/_}
-use mathlib.Core.Bool.{Bool, true, false, _&&_, _||_}
+use mathlib.Core.Bool.{Bool, _&&_, _||_}
 use mathlib.Core.List.{List, [], _∷_, _++_}
 use lib.ListN.{length, getD, replicate}
 use lib.Dec.{eqb, ltb, leb}

@@ -22,7 +22,7 @@ fn put_head(state: &[u8], header: &mut [u8])
     wire::numbers::put_u64(header, 64, crate::state::round(state) as u64);
 }
 
-// The n items of src from at, in order into header from to, and how many there are into the byte before.
+// The n items of src from at in order into header from to, and how many there are then into the byte at count_at.
 fn put_list(
     header: &mut [u8],
     count_at: usize,

@@ -1,0 +1,21 @@
+-- The laws of the ordering's definitions.
+pub mod Examples
+pub mod Lists
+pub mod Marks
+pub mod Dfs
+pub mod Find
+pub mod Sort
+pub mod Listing
+pub mod Climb
+pub mod Stakes
+pub mod Decide
+pub mod Insert
+pub mod Calls
+pub mod Editions
+pub mod Settle
+pub mod Scan
+pub mod Hole
+pub mod ClearOnce
+pub mod Size
+pub mod Fits
+pub mod Book
