@@ -2,7 +2,9 @@
 
 use crate::call::Call;
 use crate::coverage::Coverage;
-use crate::members::{self, List};
+use crate::made::Made;
+use crate::members;
+use crate::numbers::{is_round, over_32_bits, round, MAX};
 use crate::rng::Rng;
 use crate::{Difference, Module};
 use oracle::committee::from_members;
@@ -17,9 +19,6 @@ pub const MODULE: Module = Module {
     name: "config",
     case,
 };
-
-/// Document 01's end of rounds, depths and ids.
-const MAX: u64 = 4_294_967_295;
 
 /// Every entry is asked about one member list.
 fn case(rng: &mut Rng, coverage: &mut Coverage) -> Result<(), Difference> {
@@ -39,7 +38,7 @@ fn case(rng: &mut Rng, coverage: &mut Coverage) -> Result<(), Difference> {
 }
 
 /// The Rust's committee of these members; none where document 01 has none.
-fn committee(members: &[u8]) -> Option<Committee> {
+pub fn committee(members: &[u8]) -> Option<Committee> {
     let rows = members::read(members)?.into_iter();
     Some(from_members(rows.map(|x| (x.key, x.stake, x.workers))))
 }
@@ -47,7 +46,7 @@ fn committee(members: &[u8]) -> Option<Committee> {
 struct Asked<'a> {
     rng: &'a mut Rng,
     coverage: &'a mut Coverage,
-    list: List,
+    list: Made,
     rust: Option<Committee>,
 }
 
@@ -132,7 +131,7 @@ impl Asked<'_> {
 
     fn leader(&mut self) -> Result<(), Difference> {
         let (round_kind, round) = round(self.rng);
-        let expected = self.expected((1..=MAX).contains(&round), |rust| place(rust, round));
+        let expected = self.expected(is_round(round), |rust| place(rust, round));
         let call = Call {
             entry: "leader",
             slices: &[("members", &self.list.bytes)],
@@ -206,21 +205,4 @@ fn depth(rng: &mut Rng) -> (&'static str, u64) {
         0 => ("depth: over 32 bits", over_32_bits(rng, 50)),
         _ => ("depth: any", *rng.pick(&[0, 50, MAX, random])),
     }
-}
-
-fn round(rng: &mut Rng) -> (&'static str, u64) {
-    let small = rng.within(1, 100) as u64;
-    match rng.below(6) {
-        0 => ("round: 0", 0),
-        1 => ("round: over 32 bits", over_32_bits(rng, small)),
-        2 => ("round: small", small),
-        3 => ("round: the last", MAX),
-        _ => ("round: any", u64::from(rng.u32()).max(1)),
-    }
-}
-
-/// A number whose low half looks right.
-fn over_32_bits(rng: &mut Rng, low: u64) -> u64 {
-    let high = u64::from(rng.u32()).max(1) << 32;
-    *rng.pick(&[MAX + 1, (1 << 32) | low, high | low, u64::MAX])
 }

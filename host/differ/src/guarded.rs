@@ -31,16 +31,32 @@ impl Guarded {
         &self.buffer[self.start..self.end]
     }
 
+    pub fn lend_mut(&mut self) -> &mut [u8] {
+        &mut self.buffer[self.start..self.end]
+    }
+
     /// Says which byte of the buffer a call has changed, if any.
     pub fn unchanged(&self) -> Result<(), String> {
-        let pairs = self.before.iter().zip(&self.buffer);
+        self.same(&self.before)
+    }
+
+    /// Says which byte of the buffer is not as a call has to leave it, if any: the slice has to
+    /// hold `content`, and the bytes beside it are unchanged.
+    pub fn holds(&self, content: &[u8]) -> Result<(), String> {
+        let mut expected = self.before.clone();
+        expected[self.start..self.end].copy_from_slice(content);
+        self.same(&expected)
+    }
+
+    fn same(&self, expected: &[u8]) -> Result<(), String> {
+        let pairs = expected.iter().zip(&self.buffer);
         match pairs.clone().position(|(old, new)| old != new) {
             None => Ok(()),
             Some(place) => Err(format!(
-                "byte {} of {} lent ones was {} and is {}",
+                "byte {} of {} lent ones has to be {} and is {}",
                 place as i64 - self.start as i64,
                 self.end - self.start,
-                self.before[place],
+                expected[place],
                 self.buffer[place],
             )),
         }
@@ -60,10 +76,10 @@ mod tests {
 
     #[test]
     fn a_write_within_or_beside_the_slice_is_told() {
-        assert!(changed_at(0).starts_with("byte -1 of 3 lent ones was"));
-        assert_eq!(changed_at(1), "byte 0 of 3 lent ones was 1 and is 17");
-        assert_eq!(changed_at(3), "byte 2 of 3 lent ones was 3 and is 19");
-        assert!(changed_at(4).starts_with("byte 3 of 3 lent ones was"));
+        assert!(changed_at(0).starts_with("byte -1 of 3 lent ones has to be"));
+        assert_eq!(changed_at(1), "byte 0 of 3 lent ones has to be 1 and is 17");
+        assert_eq!(changed_at(3), "byte 2 of 3 lent ones has to be 3 and is 19");
+        assert!(changed_at(4).starts_with("byte 3 of 3 lent ones has to be"));
     }
 
     #[test]
@@ -71,5 +87,17 @@ mod tests {
         let guarded = Guarded::new(&mut Rng::of_case(1, 1), &[1, 2, 3]);
         assert_eq!(guarded.lend(), [1, 2, 3]);
         assert_eq!(guarded.unchanged(), Ok(()));
+    }
+
+    #[test]
+    fn a_write_is_told_where_it_is_not_the_promised_one() {
+        let mut guarded = Guarded::new(&mut Rng::of_case(1, 1), &[1, 2, 3]);
+        guarded.lend_mut().copy_from_slice(&[1, 5, 3]);
+        assert_eq!(guarded.holds(&[1, 5, 3]), Ok(()));
+        let told = guarded.holds(&[1, 6, 3]).unwrap_err();
+        assert_eq!(told, "byte 1 of 3 lent ones has to be 6 and is 5");
+        guarded.buffer[guarded.end] ^= 1;
+        let told = guarded.holds(&[1, 5, 3]).unwrap_err();
+        assert!(told.starts_with("byte 3 of 3 lent ones has to be"));
     }
 }

@@ -6,12 +6,22 @@
 
 #![forbid(unsafe_code)]
 
+pub mod aggregators;
 pub mod call;
+pub mod checks;
 pub mod config;
 pub mod coverage;
 pub mod guarded;
+pub mod headers;
+pub mod made;
 pub mod members;
+pub mod messages;
+pub mod numbers;
+pub mod proposer;
+pub mod records;
 pub mod rng;
+pub mod synchronizer;
+pub mod tables;
 
 use coverage::Coverage;
 use rng::Rng;
@@ -24,7 +34,14 @@ pub struct Module {
     pub case: fn(&mut Rng, &mut Coverage) -> Result<(), Difference>,
 }
 
-pub const MODULES: &[Module] = &[config::MODULE];
+pub const MODULES: &[Module] = &[
+    config::MODULE,
+    messages::MODULE,
+    checks::MODULE,
+    aggregators::MODULE,
+    synchronizer::MODULE,
+    proposer::MODULE,
+];
 
 pub fn module(name: &str) -> Option<&'static Module> {
     MODULES.iter().find(|module| module.name == name)

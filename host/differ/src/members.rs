@@ -1,5 +1,6 @@
 //! Member lists as bytes: of the domain, at its edges, and damaged; and document 01's domain.
 
+use crate::made::Made;
 use crate::rng::Rng;
 use std::collections::BTreeSet;
 use tundrimela::layout::member;
@@ -13,12 +14,6 @@ pub struct Row {
     pub key: Key,
     pub stake: u32,
     pub workers: Vec<u32>,
-}
-
-/// A member list and the kind that it was made as.
-pub struct List {
-    pub kind: &'static str,
-    pub bytes: Vec<u8>,
 }
 
 type Maker = (&'static str, fn(&mut Rng) -> Vec<u8>);
@@ -47,14 +42,22 @@ const DAMAGED: [Maker; 12] = [
 ];
 
 /// A list, every other time one of the domain.
-pub fn list(rng: &mut Rng) -> List {
+pub fn list(rng: &mut Rng) -> Made {
     let (kind, make) = if rng.once_in(2) {
         rng.pick(&OF_THE_DOMAIN)
     } else {
         rng.pick(&DAMAGED)
     };
-    let bytes = make(rng);
-    List { kind, bytes }
+    Made::new(kind, make(rng))
+}
+
+/// A list, mostly one of the domain.
+pub fn mostly_good(rng: &mut Rng) -> Made {
+    if rng.once_in(10) {
+        return list(rng);
+    }
+    let (kind, make) = rng.pick(&OF_THE_DOMAIN);
+    Made::new(kind, make(rng))
 }
 
 /// Document 01's domain, read on its own: the members, or none for a list outside it.
@@ -232,7 +235,7 @@ fn rows(rng: &mut Rng, size: usize) -> Vec<Row> {
 }
 
 /// Keys in ascending order, which at times differ in a single byte.
-fn keys(rng: &mut Rng, size: usize) -> BTreeSet<Key> {
+pub fn keys(rng: &mut Rng, size: usize) -> BTreeSet<Key> {
     let base = key(rng);
     let alike = rng.once_in(3);
     let place = rng.below(32);
@@ -245,7 +248,7 @@ fn keys(rng: &mut Rng, size: usize) -> BTreeSet<Key> {
     keys
 }
 
-fn key(rng: &mut Rng) -> Key {
+pub fn key(rng: &mut Rng) -> Key {
     rng.bytes(32).try_into().expect("32 bytes")
 }
 

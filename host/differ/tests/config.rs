@@ -1,5 +1,8 @@
 //! The committee on both sides: no difference, and every answer seen.
 
+mod common;
+
+use common::seen;
 use differ::config::MODULE;
 use differ::coverage::Coverage;
 use oracle::committee::from_members;
@@ -7,14 +10,7 @@ use tundrimela::raw::{self, Answer};
 use tundrimela::{Committee, Member};
 
 fn run(seed: u64) -> Coverage {
-    let run = MODULE.run(seed, 0, 5_000);
-    run.unwrap_or_else(|difference| panic!("{}", difference))
-}
-
-fn seen(coverage: &Coverage, number: u8, words: &[&str]) {
-    for what in words {
-        assert!(coverage.count(what, number) > 0, "{} {}", what, number);
-    }
+    common::run(&MODULE, seed, 5_000)
 }
 
 #[test]
@@ -105,9 +101,7 @@ fn every_kind_of_key_id_and_round_is_tried() {
 
 #[test]
 fn a_seed_fixes_the_run() {
-    let table = |seed| MODULE.run(seed, 100, 200).unwrap().to_string();
-    assert_eq!(table(4), table(4));
-    assert_ne!(table(4), table(5));
+    common::fixed_by_its_seed(&MODULE)
 }
 
 /// The thresholds are functions of the total alone, so one member is enough for all of them.

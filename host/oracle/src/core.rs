@@ -2,7 +2,8 @@
 
 use crate::committee::{name, secret};
 use crate::messages::show;
-use crate::runtime::Settling;
+use crate::runtime::{recording, Settling};
+use crate::synchronizer::payload_key;
 use crate::CHANNEL_CAPACITY;
 use narwhal::config::{Committee, WorkerId};
 use narwhal::core::Core;
@@ -18,7 +19,7 @@ use std::fmt;
 use std::net::SocketAddr;
 use std::sync::atomic::{AtomicU64, Ordering};
 use std::sync::{Arc, Once};
-use tokio::sync::mpsc::{channel, Receiver, Sender};
+use tokio::sync::mpsc::{channel, Sender};
 
 /// What a core is given.
 pub enum Event {
@@ -114,9 +115,8 @@ impl CoreDriver {
 
     /// Notes a batch that one of the own workers has.
     pub fn add_payload(&mut self, digest: &Digest, worker: WorkerId) {
-        let key = [digest.as_ref(), &worker.to_le_bytes()].concat();
-        self.runtime.run(self.store.write(key, Vec::new()));
-        self.runtime.settle();
+        let key = payload_key(digest, worker);
+        self.runtime.write(&mut self.store, key, Vec::new())
     }
 
     /// All that the event makes the core do. Within one channel the order is the Rust's.
@@ -144,17 +144,6 @@ impl CoreDriver {
             Event::OwnHeader(x) => self.tx_own_headers.try_send(x).is_ok(),
         }
     }
-}
-
-/// A channel whose messages are recorded. Tokio wakes readers in the order of the sends.
-fn recording<T: Send + 'static>(seen: impl Fn(T) -> Seen + Send + 'static) -> Sender<T> {
-    let (tx, mut rx): (_, Receiver<T>) = channel(CHANNEL_CAPACITY);
-    tokio::spawn(async move {
-        while let Some(message) = rx.recv().await {
-            recorder::push(seen(message))
-        }
-    });
-    tx
 }
 
 fn act(seen: Seen) -> Act {

@@ -1,6 +1,8 @@
 //! A runtime on the asking thread that says when no task can go on.
 
+use crate::CHANNEL_CAPACITY;
 use narwhal::recorder::{self, Seen};
+use narwhal::store::Store;
 use std::cell::Cell;
 use std::future::Future;
 use std::panic;
@@ -9,6 +11,7 @@ use std::sync::atomic::{AtomicBool, Ordering};
 use std::sync::{Arc, Mutex, Once};
 use std::task::{Context, Poll, Waker};
 use tokio::runtime::{Builder, Runtime};
+use tokio::sync::mpsc::{channel, Receiver, Sender};
 
 pub struct Settling {
     runtime: Runtime,
@@ -36,6 +39,23 @@ impl Settling {
         self.idle.forget();
         self.run(self.idle.clone())
     }
+
+    /// Stores a value, and waits until it stands there.
+    pub fn write(&self, store: &mut Store, key: Vec<u8>, value: Vec<u8>) {
+        self.run(store.write(key, value));
+        self.settle()
+    }
+}
+
+/// A channel whose messages are recorded. Tokio wakes readers in the order of the sends.
+pub fn recording<T: Send + 'static>(seen: impl Fn(T) -> Seen + Send + 'static) -> Sender<T> {
+    let (tx, mut rx): (_, Receiver<T>) = channel(CHANNEL_CAPACITY);
+    tokio::spawn(async move {
+        while let Some(message) = rx.recv().await {
+            recorder::push(seen(message))
+        }
+    });
+    tx
 }
 
 /// Ready once the thread parks. Tokio parks exactly when its run queues are empty.

@@ -1,3 +1,4 @@
+use crate::bytes::{array, put, put_list};
 use crate::layout::{self, member};
 use crate::raw::{self, Answer};
 use crate::Refusal;
@@ -17,16 +18,16 @@ pub struct Member {
 }
 
 impl Member {
-    /// A count over 8 has no place for its ids; the library refuses it for the count alone.
     fn encode(&self) -> [u8; member::SIZE] {
         let mut row = [0; member::SIZE];
-        row[..layout::KEY].copy_from_slice(&self.key);
-        row[member::STAKE..][..4].copy_from_slice(&self.stake.to_le_bytes());
-        row[member::WORKER_COUNT] = u8::try_from(self.workers.len()).unwrap_or(u8::MAX);
-        let places = row[member::WORKERS..].chunks_exact_mut(member::WORKER);
-        for (place, id) in places.zip(&self.workers) {
-            place.copy_from_slice(&id.to_le_bytes());
-        }
+        put(&mut row, 0, &self.key);
+        put(&mut row, member::STAKE, &self.stake.to_le_bytes());
+        put_list(
+            &mut row,
+            member::WORKER_COUNT,
+            member::WORKERS..member::SIZE,
+            self.workers.iter().map(|id| id.to_le_bytes()),
+        );
         row
     }
 }
@@ -51,6 +52,12 @@ impl Committee {
     /// The number of members.
     pub fn size(&self) -> usize {
         self.members.len() / member::SIZE
+    }
+
+    /// The members' keys, ascending.
+    pub fn keys(&self) -> impl Iterator<Item = Key> + '_ {
+        let rows = self.members.chunks_exact(member::SIZE);
+        rows.map(|row| array(row, 0))
     }
 
     /// The quorum threshold: 2T/3 + 1 for a total stake of T.

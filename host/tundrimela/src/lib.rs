@@ -22,17 +22,63 @@
 //! # Ok::<(), Refusal>(())
 //! ```
 //!
+//! A header has a string, whose hash is its id; the host takes the hash. The library says which
+//! parents and batches of it are missing.
+//!
+//! ```
+//! use tundrimela::{Batch, Batches, Committee, Genesis, Header, Known, Member, Record, Refusal};
+//!
+//! let member = |name: u8| Member { key: [name; 32], stake: 1, workers: vec![0] };
+//! let committee = Committee::new(&[member(1), member(2)])?;
+//! let genesis = Genesis::new(&committee, &[[11; 32], [12; 32]])?;
+//! let batch = Batch { digest: [5; 32], worker: 0 };
+//! let header = Header::new([1; 32], 1, &[[11; 32], [13; 32]], &[batch])?;
+//! assert_eq!(header.string().len(), 40 + 36 + 2 * 32);
+//!
+//! let mut known = Known::new(100)?;
+//! assert_eq!(genesis.missing_parents(&known, &header), [[13; 32]]);
+//! known.learn(&Record { round: 1, origin: [2; 32], digest: [13; 32] })?;
+//! assert!(genesis.delivers(&known, &header));
+//! assert_eq!(Batches::new([2; 32]).missing(&header), [batch]);
+//! # Ok::<(), Refusal>(())
+//! ```
+//!
 //! [`raw`] has the same calls on plain byte slices; [`layout`] says how those are laid out.
 
 #![deny(unsafe_code)]
 #![warn(missing_docs)]
 
+mod batch;
+mod bytes;
+mod certificate;
+mod checks;
 mod committee;
+mod counts;
 #[allow(unsafe_code)]
 mod ffi;
+mod genesis;
+mod header;
+mod known;
 pub mod layout;
+mod proposer;
 pub mod raw;
 mod refusal;
+mod table;
+mod vote;
+mod voters;
 
+pub use batch::{Batch, Batches};
+pub use certificate::Certificate;
+pub use checks::Verdicts;
 pub use committee::{Committee, Key, Member, Setup};
+pub use counts::Counts;
+pub use genesis::Genesis;
+pub use header::Header;
+pub use known::{Known, Record};
+pub use proposer::Proposer;
 pub use refusal::Refusal;
+pub use vote::Vote;
+pub use voters::Voters;
+
+/// A digest: the first half of a SHA-512 hash, which the host takes.
+pub type Digest = [u8; layout::DIGEST];

@@ -1,10 +1,17 @@
 //! The library's calls on any byte slices at all.
 //!
-//! No input is wrong here: one outside the domain is refused. Each call reads what it is lent and
-//! changes none of it. [`layout`](crate::layout) says what the slices mean.
+//! No input is wrong here: one outside the domain is refused. A slice lent as `&[u8]` is only
+//! read; one lent as `&mut [u8]` is written as the call says, and left as it is by a refusal.
+//! [`layout`](crate::layout) says what the slices mean.
 
-use crate::ffi;
 use crate::Refusal;
+
+pub use crate::ffi::aggregators::*;
+pub use crate::ffi::checks::*;
+pub use crate::ffi::committee::*;
+pub use crate::ffi::proposer::*;
+pub use crate::ffi::strings::*;
+pub use crate::ffi::sync::*;
 
 /// What the library answers: document 01's number, 0 for an answer, and a count.
 #[derive(Clone, Copy, Debug, PartialEq, Eq, Hash)]
@@ -42,45 +49,10 @@ impl Answer {
     }
 
     /// The library's word is the number plus 256 times the count.
-    fn from_word(word: u64) -> Answer {
+    pub(crate) fn from_word(word: u64) -> Answer {
         Answer {
             number: word as u8,
             count: word >> 8,
         }
     }
-}
-
-/// The number of members.
-pub fn committee(members: &[u8]) -> Answer {
-    Answer::from_word(ffi::committee(members))
-}
-
-/// The number of members of a setup.
-pub fn setup(setup: &[u8]) -> Answer {
-    Answer::from_word(ffi::setup(setup))
-}
-
-/// The quorum threshold: 2T/3 + 1 for a total stake of T.
-pub fn quorum(members: &[u8]) -> Answer {
-    Answer::from_word(ffi::quorum(members))
-}
-
-/// The validity threshold: (T + 2)/3 for a total stake of T.
-pub fn validity(members: &[u8]) -> Answer {
-    Answer::from_word(ffi::validity(members))
-}
-
-/// The stake of a key; 0 for a stranger.
-pub fn stake(members: &[u8], key: &[u8]) -> Answer {
-    Answer::from_word(ffi::stake(members, key))
-}
-
-/// 1 if the key is a member's who has a worker of this id, else 0.
-pub fn worker(members: &[u8], key: &[u8], id: u64) -> Answer {
-    Answer::from_word(ffi::worker(members, key, id))
-}
-
-/// The place of the member that leads a round.
-pub fn leader(members: &[u8], round: u64) -> Answer {
-    Answer::from_word(ffi::leader(members, round))
 }
