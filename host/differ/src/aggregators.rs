@@ -1,16 +1,16 @@
 //! Votes and certificates counted one after the other, beside the Rust's aggregators.
 
 use crate::call::{Call, Written};
-use crate::config::committee;
 use crate::coverage::Coverage;
 use crate::headers::key_at;
+use crate::listed::Listed;
 use crate::made::{self, put, Made};
-use crate::members::{self, Key, Row};
+use crate::members::{self, Key};
 use crate::numbers::{is_round, over_32_bits, MAX};
 use crate::records::Record;
 use crate::rng::Rng;
 use crate::tables;
-use crate::{Difference, Module};
+use crate::{agreed, Difference, Module};
 use oracle::narwhal::aggregators::{CertificatesAggregator, VotesAggregator};
 use oracle::narwhal::config::Committee;
 use oracle::narwhal::crypto::{Digest, Hash as _, PublicKey, Signature};
@@ -26,11 +26,8 @@ pub const MODULE: Module = Module {
 };
 
 fn case(rng: &mut Rng, coverage: &mut Coverage) -> Result<(), Difference> {
-    let list = members::mostly_good(rng);
     let mut run = Run {
-        rows: members::read(&list.bytes).unwrap_or_default(),
-        rust: committee(&list.bytes),
-        list,
+        list: Listed::any(rng),
         rng,
         coverage,
         pool: Vec::new(),
@@ -43,9 +40,7 @@ fn case(rng: &mut Rng, coverage: &mut Coverage) -> Result<(), Difference> {
 struct Run<'a> {
     rng: &'a mut Rng,
     coverage: &'a mut Coverage,
-    list: Made,
-    rows: Vec<Row>,
-    rust: Option<Committee>,
+    list: Listed,
     /// The keys that vote and certify in this case.
     pool: Vec<Key>,
 }
@@ -81,7 +76,7 @@ impl Tally<'_> {
 impl Run<'_> {
     /// The members, at times with strangers, at times strangers alone.
     fn some_keys(&mut self) -> Vec<Key> {
-        let mut keys: Vec<_> = self.rows.iter().map(|x| x.key).collect();
+        let mut keys: Vec<_> = self.list.rows.iter().map(|x| x.key).collect();
         let strangers = *self.rng.pick(&[0, 0, 1, 3, 40]);
         if strangers == 40 && self.rng.once_in(2) {
             keys.clear();
@@ -162,7 +157,7 @@ impl Run<'_> {
     /// Document 01, read on its own: 10, 11, 5, 12, then one voter more.
     fn voted(&self, bytes: &[u8], author: &[u8]) -> (Answer, Vec<u8>) {
         let refused = |refusal| (Answer::refused(refusal), bytes.to_vec());
-        let rust = match &self.rust {
+        let rust = match &self.list.rust {
             None => return refused(Refusal::BadCommittee),
             Some(rust) => rust,
         };
@@ -190,16 +185,17 @@ impl Run<'_> {
 
     /// The Rust counts the same, and certifies with the voters in the order counted.
     fn same_vote(
-        &self,
+        &mut self,
         aggregator: &mut VotesAggregator,
         author: &[u8],
         answer: Answer,
         after: &[u8],
     ) -> Result<(), Difference> {
-        let rust = match &self.rust {
+        let rust = match &self.list.rust {
             Some(rust) if [0, 5].contains(&answer.number) => rust,
             _ => return Ok(()),
         };
+        self.coverage.beside_the_rust("count_vote", answer);
         let header = Header::default();
         let vote = Vote {
             id: Digest::default(),
@@ -331,7 +327,7 @@ impl Run<'_> {
     /// Document 01, read on its own: 10, 11, a repeated origin, 12, then one pair more.
     fn certified(&self, bytes: &[u8], asked: &Asked, out: usize) -> (Answer, Vec<u8>, Vec<Key>) {
         let stay = |answer| (answer, bytes.to_vec(), Vec::new());
-        let rust = match &self.rust {
+        let rust = match &self.list.rust {
             None => return stay(Answer::refused(Refusal::BadCommittee)),
             Some(rust) => rust,
         };
@@ -366,16 +362,17 @@ impl Run<'_> {
 
     /// The Rust gives the same digests.
     fn same_certificate(
-        &self,
+        &mut self,
         rounds: &mut HashMap<u64, CertificatesAggregator>,
         asked: &Asked,
         answer: Answer,
         given: &[Key],
     ) -> Result<(), Difference> {
-        let rust = match &self.rust {
+        let rust = match &self.list.rust {
             Some(rust) if answer.number == 0 => rust,
             _ => return Ok(()),
         };
+        self.coverage.beside_the_rust("count_certificate", answer);
         let aggregator = rounds.entry(asked.round);
         let aggregator = aggregator.or_insert_with(CertificatesAggregator::new);
         let result = aggregator.append(asked.record.rust(), rust);
@@ -398,10 +395,6 @@ impl Asked {
     fn in_shape(&self) -> bool {
         is_round(self.round) && self.origin.bytes.len() == 32 && self.digest.bytes.len() == 32
     }
-}
-
-fn agreed(same: bool, what: &str) -> Result<(), Difference> {
-    same.then_some(()).ok_or_else(|| Difference(what.into()))
 }
 
 fn keys_in(voters: &[u8]) -> Vec<Key> {

@@ -2,11 +2,11 @@
 //! good or bad on purpose, and the verdicts are what the Rust's hashes and signatures say of it.
 
 use crate::call::Call;
-use crate::config::committee;
 use crate::coverage::Coverage;
 use crate::headers::{self, key_at, Parts};
+use crate::listed::Listed;
 use crate::made::{self, Made};
-use crate::members::{self, Key, Row};
+use crate::members::{self, Key};
 use crate::numbers::{is_round, round, verdict};
 use crate::rng::Rng;
 use crate::{Difference, Module};
@@ -25,11 +25,8 @@ pub const MODULE: Module = Module {
 };
 
 fn case(rng: &mut Rng, coverage: &mut Coverage) -> Result<(), Difference> {
-    let list = members::mostly_good(rng);
     let mut run = Run {
-        rows: members::read(&list.bytes).unwrap_or_default(),
-        rust: committee(&list.bytes),
-        list,
+        list: Listed::any(rng),
         rng,
         coverage,
     };
@@ -41,9 +38,7 @@ fn case(rng: &mut Rng, coverage: &mut Coverage) -> Result<(), Difference> {
 struct Run<'a> {
     rng: &'a mut Rng,
     coverage: &'a mut Coverage,
-    list: Made,
-    rows: Vec<Row>,
-    rust: Option<Committee>,
+    list: Listed,
 }
 
 /// What goes over: the message, the verdicts, and their kinds.
@@ -152,9 +147,13 @@ impl Run<'_> {
     ) -> Result<(), Difference> {
         let verdicts = &asked.verdicts;
         let over = verdicts.iter().any(|x| *x > 1);
-        let expected = match (&self.rust, read) {
+        let expected = match (&self.list.rust, read) {
             (None, _) => Answer::refused(Refusal::BadCommittee),
-            (Some(rust), Some(message)) if !over => answer(verify(&message, rust)),
+            (Some(rust), Some(message)) if !over => {
+                let answer = answer(verify(&message, rust));
+                self.coverage.beside_the_rust(asked.entry, answer);
+                answer
+            }
             _ => Answer::refused(Refusal::BadShape),
         };
         let mut kinds = asked.kinds;
@@ -184,10 +183,10 @@ impl Run<'_> {
     }
 
     fn some_key(&mut self) -> (&'static str, Key) {
-        if self.rows.is_empty() || self.rng.once_in(6) {
+        if self.list.rows.is_empty() || self.rng.once_in(6) {
             return ("author: a stranger", members::key(self.rng));
         }
-        ("author: a member", self.rng.pick(&self.rows).key)
+        ("author: a member", self.rng.pick(&self.list.rows).key)
     }
 
     /// A header whose id, author, workers and signature are each good or bad.
@@ -210,7 +209,7 @@ impl Run<'_> {
 
     /// Mostly workers that the author has.
     fn choose_workers(&mut self, parts: &mut Parts) -> &'static str {
-        let row = self.rows.iter().find(|x| x.key == parts.author);
+        let row = self.list.rows.iter().find(|x| x.key == parts.author);
         let workers = row.map_or(Vec::new(), |x| x.workers.clone());
         if workers.is_empty() && !self.rng.once_in(4) {
             parts.payload.clear();
@@ -264,7 +263,7 @@ impl Run<'_> {
 
     /// Voters in any order: a quorum or not, at times with a repeated one or a stranger.
     fn some_voters(&mut self) -> (&'static str, Vec<Key>) {
-        let mut keys: Vec<_> = self.rows.iter().map(|x| x.key).collect();
+        let mut keys: Vec<_> = self.list.rows.iter().map(|x| x.key).collect();
         for place in (1..keys.len()).rev() {
             keys.swap(place, self.rng.below(place + 1));
         }
@@ -312,7 +311,7 @@ impl Run<'_> {
     }
 
     fn up_to_quorum(&self, keys: &mut Vec<Key>) {
-        if let Some(rust) = &self.rust {
+        if let Some(rust) = &self.list.rust {
             let mut weight = 0;
             keys.retain(|key| {
                 let wanted = weight < rust.quorum_threshold();

@@ -24,6 +24,11 @@ impl Coverage {
         }
     }
 
+    /// Notes that the Rust was asked the same and gave this answer.
+    pub fn beside_the_rust(&mut self, entry: &str, answer: Answer) {
+        self.add(format!("Rust {}", entry), answer.number)
+    }
+
     fn add(&mut self, what: String, number: u8) {
         *self.counts.entry((what, number)).or_default() += 1
     }

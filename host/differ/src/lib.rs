@@ -13,6 +13,7 @@ pub mod config;
 pub mod coverage;
 pub mod guarded;
 pub mod headers;
+pub mod listed;
 pub mod made;
 pub mod members;
 pub mod messages;
@@ -50,6 +51,11 @@ pub fn module(name: &str) -> Option<&'static Module> {
 /// A call on which the two sides differ, or that changed what it may not change.
 #[derive(Debug, PartialEq, Eq)]
 pub struct Difference(pub String);
+
+/// A difference between the Rust and document 01, if they do not say the same.
+pub fn agreed(same: bool, what: &str) -> Result<(), Difference> {
+    same.then_some(()).ok_or_else(|| Difference(what.into()))
+}
 
 impl fmt::Display for Difference {
     fn fmt(&self, f: &mut fmt::Formatter) -> fmt::Result {

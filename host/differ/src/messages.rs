@@ -7,7 +7,7 @@ use crate::made::{of_32, Made};
 use crate::members::{self, Key};
 use crate::numbers::{is_round, round};
 use crate::rng::Rng;
-use crate::{Difference, Module};
+use crate::{agreed, Difference, Module};
 use oracle::narwhal::crypto::{Digest, Hash as _, PublicKey, Signature};
 use oracle::narwhal::messages::{Certificate, Header, Vote};
 use oracle::narwhal::stand_ins::ed25519_dalek::{Digest as _, Sha512};
@@ -38,6 +38,9 @@ fn header_string(rng: &mut Rng, coverage: &mut Coverage, header: &Made) -> Resul
     }
     let room = Room::any(rng, string.as_ref().map_or(200, Vec::len));
     let (expected, after) = room.written(string.as_deref());
+    if string.is_some() {
+        coverage.beside_the_rust("header_string", expected);
+    }
     let call = Call {
         entry: "header_string",
         slices: &[("header", &header.bytes)],
@@ -63,12 +66,8 @@ fn string_of(parts: &Parts) -> Vec<u8> {
 
 /// The bytes that are compared with the library's are those that the Rust hashes.
 fn hashes_to(string: &[u8], digest: Digest) -> Result<(), Difference> {
-    let hash = Sha512::digest(string);
-    if hash[..32] == digest.0 {
-        return Ok(());
-    }
     let what = "document 01's string does not hash to the Rust's digest";
-    Err(Difference(what.into()))
+    agreed(Sha512::digest(string)[..32] == digest.0, what)
 }
 
 /// Id, round and origin, of which the strings of votes and certificates are made.
@@ -113,6 +112,9 @@ impl Triple {
         };
         let room = Room::any(rng, 72);
         let (expected, after) = room.written(string.as_deref());
+        if string.is_some() {
+            coverage.beside_the_rust(entry, expected);
+        }
         let (round_kind, round) = self.round;
         let call = Call {
             entry,

@@ -1,15 +1,15 @@
 //! Parents, payload and the known table: what is missing is what the Rust asks its waiters for.
 
 use crate::call::{Call, Written};
-use crate::config::committee;
 use crate::coverage::Coverage;
 use crate::headers::{self, Parts};
+use crate::listed::Listed;
 use crate::made::{self, Made};
-use crate::members::{self, Key, Row};
+use crate::members::{self, Key};
 use crate::records::{self, Record};
 use crate::rng::Rng;
 use crate::tables;
-use crate::{Difference, Module};
+use crate::{agreed, Difference, Module};
 use oracle::narwhal::config::Committee;
 use oracle::narwhal::crypto::{Digest, PublicKey};
 use oracle::narwhal::messages::Certificate;
@@ -32,7 +32,7 @@ fn case(rng: &mut Rng, coverage: &mut Coverage) -> Result<(), Difference> {
 
 /// What a question about parents lends.
 struct Lent {
-    members: Made,
+    members: Listed,
     genesis: Made,
     known: Made,
     header: Made,
@@ -40,6 +40,8 @@ struct Lent {
 
 /// The same where document 01 takes it.
 struct Read {
+    /// The Rust's committee, where genesis is the Rust's.
+    rust: Option<Committee>,
     genesis: Vec<Record>,
     known: Vec<Record>,
     header: Parts,
@@ -47,9 +49,8 @@ struct Read {
 
 impl Lent {
     fn any(rng: &mut Rng) -> Lent {
-        let members = members::mostly_good(rng);
-        let rows = members::read(&members.bytes).unwrap_or_default();
-        let genesis = records::genesis(rng, &rows);
+        let members = Listed::any(rng);
+        let genesis = records::genesis(rng, &members.rows);
         let (known, behind) = (some_records(rng), some_records(rng));
         let mut header = headers::parts(rng);
         header.parents = some_parents(rng, &genesis.bytes, &known, &behind);
@@ -63,13 +64,16 @@ impl Lent {
 
     /// 10, then 11.
     fn read(&self) -> Result<Read, Refusal> {
-        let rows = members::read(&self.members.bytes).ok_or(Refusal::BadCommittee)?;
-        self.read_rest(&rows).ok_or(Refusal::BadShape)
+        let rust = self.members.rust.clone().ok_or(Refusal::BadCommittee)?;
+        self.read_rest(rust).ok_or(Refusal::BadShape)
     }
 
-    fn read_rest(&self, rows: &[Row]) -> Option<Read> {
+    fn read_rest(&self, rust: Committee) -> Option<Read> {
+        let rows = &self.members.rows;
+        let genesis = records::read_genesis(rows, &self.genesis.bytes)?;
         Some(Read {
-            genesis: records::read_genesis(rows, &self.genesis.bytes)?,
+            rust: (genesis == records::rust_genesis(rows)).then_some(rust),
+            genesis,
             known: records::read_known(&self.known.bytes)?,
             header: headers::read(&self.header.bytes)?,
         })
@@ -85,7 +89,12 @@ impl Lent {
     }
 
     fn kinds(&self) -> [&'static str; 4] {
-        [&self.members, &self.genesis, &self.known, &self.header].map(|x| x.kind)
+        [
+            self.members.kind,
+            self.genesis.kind,
+            self.known.kind,
+            self.header.kind,
+        ]
     }
 }
 
@@ -126,9 +135,14 @@ fn parents(rng: &mut Rng, coverage: &mut Coverage) -> Result<(), Difference> {
     );
     let read = lent.read();
     let missing = match &read {
-        Ok(read) => missing_parents(&lent.members, read)?,
+        Ok(read) => missing_parents(read)?,
         Err(_) => Vec::new(),
     };
+    if let Ok(Read { rust: Some(_), .. }) = read {
+        for entry in ["get_parents", "deliver"] {
+            coverage.beside_the_rust(entry, Answer::done(missing.len() as u64));
+        }
+    }
     deliver(
         rng,
         coverage,
@@ -177,22 +191,19 @@ fn deliver(
 
 /// What is neither in genesis nor known, in the header's order. Where genesis is the Rust's, the
 /// Rust says the same of both questions.
-fn missing_parents(members: &Made, read: &Read) -> Result<Vec<Key>, Difference> {
+fn missing_parents(read: &Read) -> Result<Vec<Key>, Difference> {
     let held = read.genesis.iter().chain(&read.known);
     let held: BTreeSet<_> = held.map(|x| x.digest).collect();
     let parents = read.header.parents.iter().copied();
     let missing: Vec<_> = parents.filter(|x| !held.contains(x)).collect();
-    let rows = members::read(&members.bytes).expect("read before");
-    if read.genesis != records::rust_genesis(&rows) {
-        return Ok(missing);
+    if let Some(rust) = &read.rust {
+        let same = rust_parents(rust, read) == (missing.clone(), missing.is_empty());
+        agreed(
+            same,
+            "the Rust finds other parents missing than document 01",
+        )?;
     }
-    let committee = committee(&members.bytes).expect("read before");
-    let rust = rust_parents(&committee, read);
-    let expected = (missing.clone(), missing.is_empty());
-    let what = "the Rust finds other parents missing than document 01";
-    (rust == expected)
-        .then_some(missing)
-        .ok_or_else(|| Difference(what.into()))
+    Ok(missing)
 }
 
 /// The parents that the Rust asks for, and whether it delivers the certificate.
@@ -242,6 +253,9 @@ fn payload(rng: &mut Rng, coverage: &mut Coverage) -> Result<(), Difference> {
         _ => Err(Refusal::BadShape),
     };
     let (answer, after) = at_the_front(&out.bytes, missing, batch::SIZE);
+    if answer.number == 0 {
+        coverage.beside_the_rust("missing_payload", answer);
+    }
     let call = Call {
         entry: "missing_payload",
         slices: &[

@@ -2,7 +2,7 @@
 
 mod common;
 
-use common::{fixed_by_its_seed, never, refused, run, seen};
+use common::{beside_the_rust, fixed_by_its_seed, never, refused, run, seen};
 use differ::aggregators::MODULE;
 
 const CALLS: [&str; 2] = ["call count_vote", "call count_certificate"];
@@ -14,6 +14,8 @@ fn no_difference_in_any_count() {
     for number in [0, 10, 11, 12] {
         seen(&coverage, number, &CALLS);
     }
+    beside_the_rust(&coverage, 0, 10_000, &["count_vote", "count_certificate"]);
+    beside_the_rust(&coverage, 5, 10_000, &["count_vote"]);
     seen(&coverage, 5, &CALLS[..1]);
     never(&coverage, 5, &CALLS[1..]);
     for call in CALLS {

@@ -2,7 +2,9 @@
 
 mod common;
 
-use common::{fixed_by_its_seed, never, refused, run, seen, BAD_HEADERS, GOOD_HEADERS};
+use common::{
+    beside_the_rust, fixed_by_its_seed, never, refused, run, seen, BAD_HEADERS, GOOD_HEADERS,
+};
 use differ::checks::MODULE;
 
 #[test]
@@ -19,7 +21,15 @@ fn no_difference_in_any_check() {
     for number in [0, 2, 4, 10, 11] {
         seen(&coverage, number, &["call vote_check"]);
     }
+    let entries = ["certificate_check", "header_check", "vote_check"];
+    for number in [0, 2, 4] {
+        beside_the_rust(&coverage, number, 500, &entries);
+    }
+    for number in [1, 3] {
+        beside_the_rust(&coverage, number, 300, &entries[..2]);
+    }
     for number in [5, 7] {
+        beside_the_rust(&coverage, number, 100, &entries[..1]);
         seen(&coverage, number, &["call certificate_check"]);
         never(&coverage, number, &["call header_check", "call vote_check"]);
     }

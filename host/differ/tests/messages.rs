@@ -2,7 +2,9 @@
 
 mod common;
 
-use common::{both, fixed_by_its_seed, refused, run, seen, BAD_HEADERS, GOOD_HEADERS};
+use common::{
+    beside_the_rust, both, fixed_by_its_seed, refused, run, seen, BAD_HEADERS, GOOD_HEADERS,
+};
 use differ::messages::MODULE;
 
 const CALLS: [&str; 3] = [
@@ -16,6 +18,8 @@ fn no_difference_in_any_string() {
     let coverage = run(&MODULE, 1, 10_000);
     println!("{}", coverage);
     both(&coverage, 11, &CALLS);
+    let entries = ["header_string", "vote_string", "certificate_string"];
+    beside_the_rust(&coverage, 0, 2_000, &entries);
     assert_eq!(coverage.calls(), 30_000);
     let numbers = [0, 11].map(|number| CALLS.map(|call| coverage.count(call, number)));
     let counted: u64 = numbers.iter().flatten().sum();

@@ -2,7 +2,7 @@
 
 mod common;
 
-use common::{fixed_by_its_seed, never, refused, run, seen};
+use common::{beside_the_rust, fixed_by_its_seed, never, refused, run, seen};
 use differ::proposer::MODULE;
 
 const CALLS: [&str; 2] = ["call proposer_start", "call proposer_event"];
@@ -14,6 +14,8 @@ fn no_difference_in_any_header() {
     for number in [0, 11] {
         seen(&coverage, number, &CALLS);
     }
+    beside_the_rust(&coverage, 0, 300, &["proposer_start"]);
+    beside_the_rust(&coverage, 0, 3_000, &["proposer_event"]);
     seen(&coverage, 10, &CALLS[..1]);
     never(&coverage, 10, &CALLS[1..]);
     seen(&coverage, 12, &CALLS[1..]);

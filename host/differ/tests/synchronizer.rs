@@ -2,7 +2,9 @@
 
 mod common;
 
-use common::{both, fixed_by_its_seed, never, refused, run, seen, BAD_HEADERS, GOOD_HEADERS};
+use common::{
+    beside_the_rust, both, fixed_by_its_seed, never, refused, run, seen, BAD_HEADERS, GOOD_HEADERS,
+};
 use differ::synchronizer::MODULE;
 
 const PARENTS: [&str; 2] = ["call get_parents", "call deliver"];
@@ -14,6 +16,8 @@ fn no_difference_in_any_call() {
     println!("{}", coverage);
     both(&coverage, 11, &PARENTS);
     both(&coverage, 11, &OTHERS);
+    let entries = ["get_parents", "deliver", "missing_payload"];
+    beside_the_rust(&coverage, 0, 2_000, &entries);
     seen(&coverage, 10, &PARENTS);
     never(&coverage, 10, &OTHERS);
     seen(&coverage, 12, &["call learn"]);

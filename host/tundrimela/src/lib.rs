@@ -43,6 +43,26 @@
 //! # Ok::<(), Refusal>(())
 //! ```
 //!
+//! What peers send is checked with the host's verdicts on hashes and signatures: [`Header::check`],
+//! [`Vote::check`], [`Certificate::check`]. [`Voters`] and [`Counts`] count up to a quorum.
+//! [`Proposer`] makes a member's own headers.
+//!
+//! ```
+//! # use tundrimela::{Committee, Genesis, Member, Proposer, Refusal, Voters};
+//! # let member = |name: u8| Member { key: [name; 32], stake: 1, workers: vec![0] };
+//! # let committee = Committee::new(&[member(1), member(2)])?;
+//! # let genesis = Genesis::new(&committee, &[[11; 32], [12; 32]])?;
+//! let (mut proposer, header) = Proposer::start(&genesis, [1; 32], 1_000, false)?;
+//! assert_eq!(header, None);
+//! let header = proposer.timer().expect("genesis is there and the timer has run out");
+//! assert_eq!(header.round(), 1);
+//!
+//! let mut voters = Voters::new();
+//! assert!(!voters.count(&committee, &[1; 32])?);
+//! assert!(voters.count(&committee, &[2; 32])?);
+//! # Ok::<(), Refusal>(())
+//! ```
+//!
 //! [`raw`] has the same calls on plain byte slices; [`layout`] says how those are laid out.
 
 #![deny(unsafe_code)]

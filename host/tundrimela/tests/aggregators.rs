@@ -1,23 +1,11 @@
 //! Votes and certificates counted up to a quorum, and tables at their ends.
 
+mod common;
+
+use common::{committee, key};
 use tundrimela::layout::{count, voters};
 use tundrimela::raw::{self, Answer};
-use tundrimela::{Committee, Counts, Digest, Key, Member, Record, Refusal, Voters};
-
-fn key(name: u8) -> Key {
-    [name; 32]
-}
-
-/// Members 1, 2, .. with these stakes.
-fn committee(stakes: &[u32]) -> Committee {
-    let member = |(name, stake): (u8, &u32)| Member {
-        key: key(name),
-        stake: *stake,
-        workers: Vec::new(),
-    };
-    let members: Vec<_> = (1..).zip(stakes).map(member).collect();
-    Committee::new(&members).unwrap()
-}
+use tundrimela::{Counts, Digest, Record, Refusal, Voters};
 
 fn record(round: u32, origin: u8) -> Record {
     Record {

@@ -1,8 +1,11 @@
 //! Checks of headers, votes and certificates: the order of the refusals, and the edges.
 
+mod common;
+
+use common::{committee, key};
 use tundrimela::layout::certificate;
 use tundrimela::raw::{self, Answer};
-use tundrimela::{Batch, Certificate, Committee, Header, Key, Member, Refusal, Verdicts, Vote};
+use tundrimela::{Batch, Certificate, Committee, Header, Key, Refusal, Verdicts, Vote};
 
 const GOOD: Verdicts = Verdicts {
     id: true,
@@ -10,18 +13,9 @@ const GOOD: Verdicts = Verdicts {
 };
 const STRANGER: Key = [9; 32];
 
-fn key(name: u8) -> Key {
-    [name; 32]
-}
-
-/// Members 1 to 4 with stake 1 and worker 0 each: the quorum is 3.
-fn committee() -> Committee {
-    let member = |name| Member {
-        key: key(name),
-        stake: 1,
-        workers: vec![0],
-    };
-    Committee::new(&[1, 2, 3, 4].map(member)).unwrap()
+/// Members 1 to 4, of which three are a quorum.
+fn four() -> Committee {
+    committee(&[1; 4])
 }
 
 fn header(author: Key, worker: u32) -> Header {
@@ -42,13 +36,13 @@ fn certify(voters: &[u8]) -> Certificate {
 }
 
 fn checked(voters: &[u8]) -> Result<(), Refusal> {
-    certify(voters).check(&committee(), GOOD, true)
+    certify(voters).check(&four(), GOOD, true)
 }
 
 #[test]
 fn a_header_is_refused_for_the_first_thing_wrong() {
     let check = |author, worker, id, signature| {
-        header(author, worker).check(&committee(), verdicts(id, signature))
+        header(author, worker).check(&four(), verdicts(id, signature))
     };
     assert_eq!(check(key(1), 0, true, true), Ok(()));
     assert_eq!(
@@ -69,7 +63,7 @@ fn a_header_is_refused_for_the_first_thing_wrong() {
 #[test]
 fn a_header_without_batches_needs_no_worker() {
     let empty = Header::new(key(2), 1, &[], &[]).unwrap();
-    assert_eq!(empty.check(&committee(), GOOD), Ok(()));
+    assert_eq!(empty.check(&four(), GOOD), Ok(()));
 }
 
 #[test]
@@ -83,7 +77,7 @@ fn every_batch_has_a_worker_of_the_author() {
     };
     let check = |bad| {
         let header = Header::new(key(1), 1, &[], &batches(bad)).unwrap();
-        header.check(&committee(), GOOD)
+        header.check(&four(), GOOD)
     };
     assert_eq!(check(64), Ok(()));
     for bad in [0, 1, 63] {
@@ -94,7 +88,7 @@ fn every_batch_has_a_worker_of_the_author() {
 #[test]
 fn a_vote_is_of_a_member_and_signed() {
     let header = header(key(1), 0);
-    let check = |author, signature| Vote::of(&header, author).check(&committee(), signature);
+    let check = |author, signature| Vote::of(&header, author).check(&four(), signature);
     assert_eq!(check(key(4), true), Ok(()));
     assert_eq!(check(key(4), false), Err(Refusal::InvalidSignature));
     assert_eq!(check(STRANGER, true), Err(Refusal::UnknownAuthority));
@@ -117,14 +111,13 @@ fn voters_are_looked_at_one_by_one() {
     assert_eq!(checked(&[1, 1, 9]), Err(Refusal::AuthorityReuse));
     assert_eq!(checked(&[9, 1, 1]), Err(Refusal::UnknownAuthority));
     assert_eq!(checked(&[9, 9]), Err(Refusal::UnknownAuthority));
-    let refused = certify(&[1, 1]).check(&committee(), GOOD, false);
+    let refused = certify(&[1, 1]).check(&four(), GOOD, false);
     assert_eq!(refused, Err(Refusal::AuthorityReuse));
 }
 
 #[test]
 fn the_header_comes_before_the_voters_and_these_before_their_signatures() {
-    let check =
-        |voters: &[u8], verdicts, votes| certify(voters).check(&committee(), verdicts, votes);
+    let check = |voters: &[u8], verdicts, votes| certify(voters).check(&four(), verdicts, votes);
     let (bad_id, bad_signature) = (verdicts(false, true), verdicts(true, false));
     assert_eq!(check(&[9, 9], bad_id, false), Err(Refusal::InvalidHeaderId));
     assert_eq!(
@@ -140,7 +133,7 @@ fn the_header_comes_before_the_voters_and_these_before_their_signatures() {
 #[test]
 fn votes_are_at_most_64() {
     let mut bytes = certify(&[1, 2, 3]).as_bytes().to_vec();
-    let committee = committee();
+    let committee = four();
     let ask = |bytes: &[u8]| raw::certificate_check(committee.as_bytes(), bytes, 1, 1, 1);
     assert_eq!(ask(&bytes), Answer::done(0));
     let noise = [certificate::VOTERS + 3 * 32, certificate::SIZE - 1];
@@ -156,7 +149,7 @@ fn votes_are_at_most_64() {
 
 #[test]
 fn a_verdict_is_0_or_1() {
-    let (committee, certificate) = (committee(), certify(&[1, 2, 3]));
+    let (committee, certificate) = (four(), certify(&[1, 2, 3]));
     let members = committee.as_bytes();
     let header = certificate.header();
     let vote = Vote::of(header, key(1));
@@ -175,7 +168,7 @@ fn a_verdict_is_0_or_1() {
 
 #[test]
 fn lengths_are_exact_and_members_come_first() {
-    let (committee, certificate) = (committee(), certify(&[1, 2, 3]));
+    let (committee, certificate) = (four(), certify(&[1, 2, 3]));
     let members = committee.as_bytes();
     let header = certificate.header();
     let vote = Vote::of(header, key(1));
@@ -193,7 +186,7 @@ fn lengths_are_exact_and_members_come_first() {
 
 #[test]
 fn a_vote_of_round_0_is_refused() {
-    let committee = committee();
+    let committee = four();
     let mut bytes = Vote::of(&header(key(1), 0), key(1)).as_bytes().to_vec();
     let ask = |bytes: &[u8]| raw::vote_check(committee.as_bytes(), bytes, 1);
     assert_eq!(ask(&bytes), Answer::done(0));

@@ -1,22 +1,15 @@
 //! The proposer: when a header is made, of what, and the edges of its domain.
 
+mod common;
+
+use common::{committee, key};
 use tundrimela::layout::{header, proposer};
 use tundrimela::raw::{self, Answer};
-use tundrimela::{Batch, Committee, Digest, Genesis, Header, Key, Member, Proposer, Refusal};
-
-fn key(name: u8) -> Key {
-    [name; 32]
-}
+use tundrimela::{Batch, Digest, Genesis, Header, Proposer, Refusal};
 
 /// Members 1 and 2, whose genesis has the digests 12 and 11.
 fn genesis() -> Genesis {
-    let member = |name| Member {
-        key: key(name),
-        stake: 1,
-        workers: vec![0],
-    };
-    let committee = Committee::new(&[1, 2].map(member)).unwrap();
-    Genesis::new(&committee, &[12, 11].map(key)).unwrap()
+    Genesis::new(&committee(&[1; 2]), &[12, 11].map(key)).unwrap()
 }
 
 fn start(header_size: u32) -> Proposer {

@@ -1,31 +1,20 @@
 //! Genesis, the known table and the batches, at the edges of document 01's domain.
 
+mod common;
+
+use common::{committee, key};
 use tundrimela::layout::{self, record, table};
 use tundrimela::raw::{self, Answer};
-use tundrimela::{Batch, Batches, Committee, Digest, Genesis, Header, Key, Known, Member};
-use tundrimela::{Record, Refusal};
+use tundrimela::{Batch, Batches, Digest, Genesis, Header, Known, Record, Refusal};
 
 const BAD_SHAPE: Answer = Answer {
     number: 11,
     count: 0,
 };
 
-fn key(name: u8) -> Key {
-    [name; 32]
-}
-
-fn committee() -> Committee {
-    let member = |name| Member {
-        key: key(name),
-        stake: 1,
-        workers: vec![0],
-    };
-    Committee::new(&[member(1), member(2), member(3)]).unwrap()
-}
-
 /// Members 1, 2, 3 with the digests 11, 12, 13.
 fn genesis() -> Genesis {
-    Genesis::new(&committee(), &[11, 12, 13].map(key)).unwrap()
+    Genesis::new(&committee(&[1; 3]), &[11, 12, 13].map(key)).unwrap()
 }
 
 fn header(parents: &[Digest], payload: &[Batch]) -> Header {
@@ -44,14 +33,14 @@ fn record(digest: u8) -> Record {
 fn genesis_has_one_digest_for_each_member() {
     for digests in [&[11, 12][..], &[11, 12, 13, 14], &[]] {
         let digests: Vec<_> = digests.iter().copied().map(key).collect();
-        let other = Genesis::new(&committee(), &digests);
+        let other = Genesis::new(&committee(&[1; 3]), &digests);
         assert_eq!(other, Err(Refusal::BadShape));
     }
     for equal in [[11, 11, 13], [11, 12, 11], [12, 13, 13]] {
-        let other = Genesis::new(&committee(), &equal.map(key));
+        let other = Genesis::new(&committee(&[1; 3]), &equal.map(key));
         assert_eq!(other, Err(Refusal::BadShape));
     }
-    assert_eq!(genesis().committee(), &committee());
+    assert_eq!(genesis().committee(), &committee(&[1; 3]));
     assert_eq!(genesis().as_bytes().len(), 3 * record::SIZE);
 }
 
@@ -147,7 +136,7 @@ fn what_stands_behind_the_rows_in_use_is_not_known() {
     let mut bytes = known.as_bytes().to_vec();
     bytes[0] = 1;
     let answer = raw::deliver(
-        committee().as_bytes(),
+        committee(&[1; 3]).as_bytes(),
         genesis().as_bytes(),
         &bytes,
         header(&[key(21)], &[]).as_bytes(),
@@ -157,7 +146,7 @@ fn what_stands_behind_the_rows_in_use_is_not_known() {
 
 #[test]
 fn the_buffer_for_parents_has_1024_bytes() {
-    let (committee, genesis, known) = (committee(), genesis(), Known::new(1).unwrap());
+    let (committee, genesis, known) = (committee(&[1; 3]), genesis(), Known::new(1).unwrap());
     let asked = header(&[key(20)], &[]);
     let ask = |out: &mut [u8]| {
         let (members, records) = (committee.as_bytes(), genesis.as_bytes());
@@ -179,7 +168,7 @@ fn the_buffer_for_parents_has_1024_bytes() {
 fn a_bad_committee_comes_before_a_bad_shape() {
     let answer = raw::get_parents(&[], &[], &[], &[], &mut []);
     assert_eq!(answer, Answer::refused(Refusal::BadCommittee));
-    let answer = raw::deliver(&committee().as_bytes()[1..], &[], &[], &[]);
+    let answer = raw::deliver(&committee(&[1; 3]).as_bytes()[1..], &[], &[], &[]);
     assert_eq!(answer, Answer::refused(Refusal::BadCommittee));
 }
 

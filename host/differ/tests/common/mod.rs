@@ -36,6 +36,14 @@ pub fn refused(coverage: &Coverage, number: u8, words: &[&str]) {
     never(coverage, 0, words);
 }
 
+/// The Rust was asked the same at least so often, with this answer.
+pub fn beside_the_rust(coverage: &Coverage, number: u8, least: u64, entries: &[&str]) {
+    for entry in entries {
+        let count = coverage.count(&format!("Rust {}", entry), number);
+        assert!(count >= least, "{} {}: {} times", entry, number, count);
+    }
+}
+
 /// A seed fixes a run, and another seed gives another one.
 pub fn fixed_by_its_seed(module: &Module) {
     let table = |seed| run(module, seed, 200).to_string();
