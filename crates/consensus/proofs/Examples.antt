@@ -4,13 +4,13 @@ use mathlib.Core.Bool.{true}
 use mathlib.Core.List.{List, [], _∷_, _++_, map}
 use Prim.Native.Nat.{ℕ}
 use lib.ListN.{replicate}
-use Rattle.wire.specs.Bytes.{alike}
+use Rattle.wire.specs.Bytes.{alike, word}
 use Rattle.config.specs.Committee.{validity, leaderPlace}
 use Rattle.consensus.specs.Table.{Cert, fresh}
 use Rattle.consensus.specs.Candidates.{edition1, edition2}
 use Rattle.consensus.specs.Listing.{later, deep, Event, listedUnder, cleared, Step, trace}
 use Rattle.consensus.specs.Order.{Called, calls}
-use Rattle.consensus.specs.Sample.{four, all4, at, by, round, run8, rest9, rest10, run11, saidBy, saidAll, said, silent, lists}
+use Rattle.consensus.specs.Sample.{four, all4, genesis4, at, by, round, run8, rest9, rest10, run11, saidBy, saidAll, said, silent, lists}
 
 -- ---- runs
 
@@ -45,7 +45,7 @@ gapped =
     ++ round 9 [] (0 ∷ [])
 
 pub bare : ℕ → ℕ → ℕ → Cert
-bare o r d = record { origin = o; round = r; digest = d; parents = [] }
+bare o r d = record { origin = o; round = r; digest = d ∷ []; parents = [] }
 
 -- six places, four of them genesis: k0@1, and again with another digest; k1@1 fills the table; it again; then a new pair, a held digest, a
 -- stranger, and a stranger's of round 0
@@ -57,9 +57,9 @@ full =
 -- ---- what is told, as numbers: 1, the leader, the one listed; 2, the one cleared, the later round; 3, the one cleared, C
 
 pub event : Event → List ℕ
-event (listedUnder l c) = 1 ∷ l .digest ∷ c .digest ∷ []
-event (cleared c (later r)) = 2 ∷ c .digest ∷ r ∷ []
-event (cleared c (deep k)) = 3 ∷ c .digest ∷ k ∷ []
+event (listedUnder l c) = 1 ∷ word (l .digest) ∷ word (c .digest) ∷ []
+event (cleared c (later r)) = 2 ∷ word (c .digest) ∷ r ∷ []
+event (cleared c (deep k)) = 3 ∷ word (c .digest) ∷ k ∷ []
 
 pub events : List Event → List ℕ
 unfolding event
@@ -71,8 +71,8 @@ steps [] = []
 steps (r ∷ rs) = r .steps ++ steps rs
 
 pub toldOf : ℕ → List Cert → List ℕ
-unfolding four all4 events steps
-toldOf depth cs = events (trace depth (steps (calls (four depth edition1) 44 (fresh all4) cs)))
+unfolding four genesis4 events steps
+toldOf depth cs = events (trace depth (steps (calls (four depth edition1) 44 (fresh genesis4) cs)))
 
 -- ---- what they should say
 
@@ -150,7 +150,7 @@ pub record Examples : Type 0 where
   pub late : alike (toldOf 50 (run8 ++ again ++ rest9 ++ rest10)) toldAgain ≡ true
 
 pub examples : Examples
-unfolding again holed naming pairwise gapped full bare event events steps toldOf list8 list10 list11 said8 pairs one old low told8 toldAgain said calls fresh trace edition1 edition2 four all4 at by round run8 rest9 rest10 run11 saidBy saidAll silent lists alike validity leaderPlace
+unfolding again holed naming pairwise gapped full bare event events steps toldOf list8 list10 list11 said8 pairs one old low told8 toldAgain said calls fresh trace edition1 edition2 four all4 genesis4 word at by round run8 rest9 rest10 run11 saidBy saidAll silent lists alike validity leaderPlace
 examples =
     record {
       even-leaders = refl;

@@ -9,6 +9,8 @@ use native.Mathlib.Omega.{arith}
 use borrow.Author.Tests.{eqb-false, eqb-true, lt-ltb, ltb-true, ne-eqb}
 use lib.Dec.{eqb, ltb}
 use lib.ListN.{getD, length}
+use Rattle.wire.proofs.Laws.{alike-false, alike-true}
+use Rattle.wire.specs.Bytes.{alike}
 use Rattle.config.proofs.Laws.{both}
 use Rattle.consensus.specs.Among.{In}
 use Rattle.consensus.specs.Table.{Cert, State, certAt, find}
@@ -16,44 +18,44 @@ use Rattle.consensus.specs.Walk.{openParents, parentsAt}
 use Rattle.consensus.proofs.Lists.{Distinct, at-in, at-inj, same-digest}
 
 -- what find finds
-pub find-is : (r d : ℕ) (cs : List Cert) → find r d cs < length cs → (certAt cs (find r d cs) .round ≡ r) × (certAt cs (find r d cs) .digest ≡ d)
+pub find-is : (r : ℕ) (d : List ℕ) (cs : List Cert) → find r d cs < length cs → (certAt cs (find r d cs) .round ≡ r) × (certAt cs (find r d cs) .digest ≡ d)
 unfolding find certAt
 find-is r d [] h = absurd (not-suc-le-zero h)
-find-is r d (c ∷ cs) h = go (find-is r d cs) (eqb (c .round) r && eqb (c .digest) d) refl h
+find-is r d (c ∷ cs) h = go (find-is r d cs) (eqb (c .round) r && alike (c .digest) d) refl h
   where
     go : (find r d cs < length cs → (certAt cs (find r d cs) .round ≡ r) × (certAt cs (find r d cs) .digest ≡ d))
-        → (b : Bool) → (eqb (c .round) r && eqb (c .digest) d) ≡ b → find r d (c ∷ cs) < length (c ∷ cs)
+        → (b : Bool) → (eqb (c .round) r && alike (c .digest) d) ≡ b → find r d (c ∷ cs) < length (c ∷ cs)
         → (certAt (c ∷ cs) (find r d (c ∷ cs)) .round ≡ r) × (certAt (c ∷ cs) (find r d (c ∷ cs)) .digest ≡ d)
     go ih true e l =
-        let t = both (eqb (c .round) r) (eqb (c .digest) d) e in
-        rw (e, find, certAt) (eqb-true (c .round) r (t .0), eqb-true (c .digest) d (t .1))
+        let t = both (eqb (c .round) r) (alike (c .digest) d) e in
+        rw (e, find, certAt) (eqb-true (c .round) r (t .0), alike-true (c .digest) d (t .1))
     go ih false e l = rw (e, find, certAt) (ih (le-of-suc-le-suc (rw (e, find) at l)))
 
-pub find-some : (r d : ℕ) (cs : List Cert) (c : Cert) → In c cs → c .round ≡ r → c .digest ≡ d → find r d cs < length cs
+pub find-some : (r : ℕ) (d : List ℕ) (cs : List Cert) (c : Cert) → In c cs → c .round ≡ r → c .digest ≡ d → find r d cs < length cs
 unfolding find
 find-some r d [] c h er ed = absurd h
-find-some r d (x ∷ cs) c h er ed = go (λ i. find-some r d cs c i er ed) (eqb (x .round) r) refl (eqb (x .digest) d) refl h
+find-some r d (x ∷ cs) c h er ed = go (λ i. find-some r d cs c i er ed) (eqb (x .round) r) refl (alike (x .digest) d) refl h
   where
-    go : (In c cs → find r d cs < length cs) → (b : Bool) → eqb (x .round) r ≡ b → (b′ : Bool) → eqb (x .digest) d ≡ b′ → In c (x ∷ cs)
+    go : (In c cs → find r d cs < length cs) → (b : Bool) → eqb (x .round) r ≡ b → (b′ : Bool) → alike (x .digest) d ≡ b′ → In c (x ∷ cs)
         → find r d (x ∷ cs) < length (x ∷ cs)
     go ih true q true q′ h = rw (q, q′, find) (omega arith)
-    go ih true q false q′ (inl e) = absurd (eqb-false (x .digest) d q′ (ap (λ (v : Cert). v .digest) (sym e) ∙ ed))
+    go ih true q false q′ (inl e) = absurd (alike-false (x .digest) d q′ (ap (λ (v : Cert). v .digest) (sym e) ∙ ed))
     go ih true q false q′ (inr i) = rw (q, q′, find) (suc-le-suc (ih i))
     go ih false q b′ q′ (inl e) = absurd (eqb-false (x .round) r q (ap (λ (v : Cert). v .round) (sym e) ∙ er))
     go ih false q b′ q′ (inr i) = rw (q, find) (suc-le-suc (ih i))
 
 module _ (lasts : List ℕ) (ps : List Cert) (r : ℕ) where
   -- what a place that is put on is
-  pub record Parent (ds : List ℕ) (j : ℕ) : Type 0 where
+  pub record Parent (ds : List (List ℕ)) (j : ℕ) : Type 0 where
     pub low : j < length ps
     pub named : In (certAt ps j .digest) ds
     pub below : certAt ps j .round ≡ r
     pub open′ : getD lasts (certAt ps j .origin) 0 ≡ certAt ps j .round → ⊥
 
-  weaken : (d : ℕ) (ds : List ℕ) (j : ℕ) → Parent ds j → Parent (d ∷ ds) j
+  weaken : (d : List ℕ) (ds : List (List ℕ)) (j : ℕ) → Parent ds j → Parent (d ∷ ds) j
   weaken d ds j k = record { low = k .low; named = inr (k .named); below = k .below; open′ = k .open′ }
 
-  pub parents-are : (ds : List ℕ) (j : ℕ) → In j (openParents lasts ps r ds) → Parent ds j
+  pub parents-are : (ds : List (List ℕ)) (j : ℕ) → In j (openParents lasts ps r ds) → Parent ds j
   unfolding openParents
   parents-are [] j h = absurd h
   parents-are (d ∷ ds) j h = go (parents-are ds j) (ltb (find r d ps) (length ps)) refl h
@@ -81,7 +83,7 @@ module _ (lasts : List ℕ) (ps : List Cert) (r : ℕ) where
       go ih false t h = weaken d ds j (ih (rw (t, openParents) at h))
       go ih true t h = go₂ ih (ltb-true f (length ps) t) t (eqb (getD lasts (certAt ps f .origin) 0) (certAt ps f .round)) refl h
 
-  grow : (d : ℕ) (ds : List ℕ) (j : ℕ) → In j (openParents lasts ps r ds) → In j (openParents lasts ps r (d ∷ ds))
+  grow : (d : List ℕ) (ds : List (List ℕ)) (j : ℕ) → In j (openParents lasts ps r ds) → In j (openParents lasts ps r (d ∷ ds))
   unfolding openParents
   grow d ds j h = go (ltb f (length ps)) refl
     where
@@ -96,7 +98,7 @@ module _ (lasts : List ℕ) (ps : List Cert) (r : ℕ) where
       go false t = rw (t, openParents) h
       go true t = go₂ t (eqb (getD lasts (certAt ps f .origin) 0) (certAt ps f .round)) refl
 
-  first : Distinct ps → (d : ℕ) (ds : List ℕ) (j : ℕ) (k : Parent (d ∷ ds) j) → certAt ps j .digest ≡ d → In j (openParents lasts ps r (d ∷ ds))
+  first : Distinct ps → (d : List ℕ) (ds : List (List ℕ)) (j : ℕ) (k : Parent (d ∷ ds) j) → certAt ps j .digest ≡ d → In j (openParents lasts ps r (d ∷ ds))
   unfolding openParents
   first un d ds j k e =
       let f = find r d ps in
@@ -108,7 +110,7 @@ module _ (lasts : List ℕ) (ps : List Cert) (r : ℕ) where
       let u : eqb (getD lasts (certAt ps f .origin) 0) (certAt ps f .round) ≡ false = rw ea (ne-eqb (getD lasts (certAt ps j .origin) 0) (certAt ps j .round) (k .open′)) in
       rw (t, u, openParents) (inl (sym fj))
 
-  pub are-parents : Distinct ps → (ds : List ℕ) (j : ℕ) → Parent ds j → In j (openParents lasts ps r ds)
+  pub are-parents : Distinct ps → (ds : List (List ℕ)) (j : ℕ) → Parent ds j → In j (openParents lasts ps r ds)
   are-parents un [] j k = absurd (k .named)
   are-parents un (d ∷ ds) j k =
       let ih = are-parents un ds j in

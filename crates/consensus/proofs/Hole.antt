@@ -43,7 +43,7 @@ isMissing missing = true
 isMissing (opens ls) = false
 
 -- a link test meets a gap exactly when there is one, whatever it follows
-pub gap-hole : (n r d : ℕ) (front held : List Cert) → isGap (linked n r d front held) ≡ holeIn n r held
+pub gap-hole : (n r : ℕ) (d : List ℕ) (front held : List Cert) → isGap (linked n r d front held) ≡ holeIn n r held
 unfolding linked holeIn
 gap-hole zero r d front held = refl
 gap-hole (suc n) r d front held = go (λ f. gap-hole n r d f held) (isEmpty (ofRound (r + n) held)) refl

@@ -5,7 +5,8 @@ use mathlib.Core.Logic.{_⊎_, inl, inr, ⊎-elim}
 use mathlib.Core.Path.{_∙_, _≡_, ap, refl, subst, sym}
 use borrow.Author.Tests.{eqb-false, eqb-true}
 use lib.Dec.{eqb}
-use Rattle.wire.proofs.Laws.{true-not-false}
+use Rattle.wire.specs.Bytes.{alike}
+use Rattle.wire.proofs.Laws.{alike-false, true-not-false}
 use Rattle.config.proofs.Laws.{both}
 use Rattle.consensus.specs.Among.{In}
 use Rattle.consensus.specs.Table.{Cert, clash, holdsPair, insert, samePair}
@@ -59,16 +60,16 @@ pub clash-no : (x : Cert) (cs : List Cert) → clash x cs ≡ false → (c : Cer
 unfolding clash
 clash-no x [] e c h d = absurd h
 clash-no x (y ∷ cs) e c h d =
-    go (λ z i. clash-no x cs z c i d) (eqb (y .origin) (x .origin)) refl (eqb (y .round) (x .round)) refl (eqb (y .digest) (x .digest)) refl e h
+    go (λ z i. clash-no x cs z c i d) (eqb (y .origin) (x .origin)) refl (eqb (y .round) (x .round)) refl (alike (y .digest) (x .digest)) refl e h
   where
     Pair : Cert → Type 0
     Pair v = (v .origin ≡ x .origin) × (v .round ≡ x .round)
 
-    differ : eqb (y .digest) (x .digest) ≡ false → c ≡ y → ⊥
-    differ t z = eqb-false (y .digest) (x .digest) t (ap (λ (v : Cert). v .digest) (sym z) ∙ d)
+    differ : alike (y .digest) (x .digest) ≡ false → c ≡ y → ⊥
+    differ t z = alike-false (y .digest) (x .digest) t (ap (λ (v : Cert). v .digest) (sym z) ∙ d)
 
     go : (clash x cs ≡ false → In c cs → Pair c)
-        → (b₁ : Bool) → eqb (y .origin) (x .origin) ≡ b₁ → (b₂ : Bool) → eqb (y .round) (x .round) ≡ b₂ → (b₃ : Bool) → eqb (y .digest) (x .digest) ≡ b₃
+        → (b₁ : Bool) → eqb (y .origin) (x .origin) ≡ b₁ → (b₂ : Bool) → eqb (y .round) (x .round) ≡ b₂ → (b₃ : Bool) → alike (y .digest) (x .digest) ≡ b₃
         → clash x (y ∷ cs) ≡ false → In c (y ∷ cs) → Pair c
     go ih true t₁ true t₂ b₃ t₃ q (inl z) = subst Pair (sym z) (eqb-true (y .origin) (x .origin) t₁, eqb-true (y .round) (x .round) t₂)
     go ih true t₁ true t₂ true t₃ q (inr i) = ih (rw (t₃, t₁, t₂, clash) at q) i

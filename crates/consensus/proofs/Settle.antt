@@ -41,7 +41,7 @@ pub leader-agree : (a : Agreed) (m : ℕ) (h h′ : List Cert) → Agree m h h�
 unfolding leader
 leader-agree a m h h′ g r lt = ap (byOrigin (leaderPlace (length (a .stakes)) r)) (g r lt)
 
-pub linked-agree : (m : ℕ) (h h′ : List Cert) → Agree m h h′ → (n r d : ℕ) (front : List Cert) → r + n ≤ m → linked n r d front h ≡ linked n r d front h′
+pub linked-agree : (m : ℕ) (h h′ : List Cert) → Agree m h h′ → (n r : ℕ) (d : List ℕ) (front : List Cert) → r + n ≤ m → linked n r d front h ≡ linked n r d front h′
 unfolding linked
 linked-agree m h h′ g zero r d front le = refl
 linked-agree m h h′ g (suc n) r d front le =

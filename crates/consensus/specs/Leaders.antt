@@ -5,6 +5,7 @@ use mathlib.Core.List.{List, [], _∷_}
 use Prim.Native.Nat.{ℕ, zero, suc, _+_, _-_, _%_}
 use lib.Dec.{leb, ltb, eqb}
 use lib.ListN.{length, getD}
+use Rattle.wire.specs.Bytes.{alike}
 use Rattle.config.specs.Committee.{validity, leaderPlace}
 use Rattle.consensus.specs.Table.{Cert, highest, ofRound, isEmpty}
 
@@ -36,11 +37,11 @@ leader a r held = byOrigin (leaderPlace (length (a .stakes)) r) (ofRound r held)
 
 -- ---- the stake of those that name the leader as parent
 
-unfoldable pub isIn : ℕ → List ℕ → Bool
+unfoldable pub isIn : List ℕ → List (List ℕ) → Bool
 isIn d [] = false
-isIn d (x ∷ xs) = elim (eqb d x) [ true ↦ true | false ↦ isIn d xs ]
+isIn d (x ∷ xs) = elim (alike d x) [ true ↦ true | false ↦ isIn d xs ]
 
-unfoldable pub stakeNaming : List ℕ → ℕ → List Cert → ℕ
+unfoldable pub stakeNaming : List ℕ → List ℕ → List Cert → ℕ
 unfolding isIn
 stakeNaming ss d [] = 0
 stakeNaming ss d (c ∷ cs) =
@@ -49,7 +50,7 @@ stakeNaming ss d (c ∷ cs) =
 -- ---- the link test: through held parents, round by round
 
 -- one of the front names this digest as parent
-unfoldable pub named : ℕ → List Cert → Bool
+unfoldable pub named : List ℕ → List Cert → Bool
 unfolding isIn
 named d [] = false
 named d (c ∷ cs) = elim (isIn d (c .parents)) [ true ↦ true | false ↦ named d cs ]
@@ -60,9 +61,9 @@ unfolding named
 followed front [] = []
 followed front (c ∷ cs) = elim (named (c .digest) front) [ true ↦ c ∷ followed front cs | false ↦ followed front cs ]
 
-unfoldable pub hasDigest : ℕ → List Cert → Bool
+unfoldable pub hasDigest : List ℕ → List Cert → Bool
 hasDigest d [] = false
-hasDigest d (c ∷ cs) = elim (eqb (c .digest) d) [ true ↦ true | false ↦ hasDigest d cs ]
+hasDigest d (c ∷ cs) = elim (alike (c .digest) d) [ true ↦ true | false ↦ hasDigest d cs ]
 
 -- a round visited holds nothing (13); or whether the candidate is reached
 pub data Link : Type 0 where
@@ -71,7 +72,7 @@ pub data Link : Type 0 where
 
 -- every round below the upper leader's down to the candidate's is visited, even with nothing left to follow. The candidate has round r and
 -- digest d, the front stands n rounds above it
-unfoldable pub linked : ℕ → ℕ → ℕ → List Cert → List Cert → Link
+unfoldable pub linked : ℕ → ℕ → List ℕ → List Cert → List Cert → Link
 unfolding followed ofRound hasDigest
 linked zero r d front held = link (hasDigest d front)
 linked (suc n) r d front held =

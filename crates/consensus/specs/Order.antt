@@ -79,7 +79,7 @@ run a places h [] = h
 run a places h (x ∷ xs) = run a places (call a places h x) xs
 
 -- the fresh start
-unfoldable pub start : List ℕ → History
+unfoldable pub start : List (List ℕ) → History
 unfolding fresh
 start ds = record { state = fresh ds; accepted = []; listed = []; steps = [] }
 

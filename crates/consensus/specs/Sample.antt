@@ -2,6 +2,7 @@
 use mathlib.Core.List.{List, [], _∷_, _++_, map}
 use Prim.Native.Nat.{ℕ, _+_, _-_, _*_}
 use lib.ListN.{length, replicate}
+use Rattle.wire.specs.Bytes.{word}
 use Rattle.consensus.specs.Table.{Cert, fresh}
 use Rattle.consensus.specs.Leaders.{Agreed}
 use Rattle.consensus.specs.Listing.{Step}
@@ -13,14 +14,18 @@ four depth candidates = record { stakes = 1 ∷ 1 ∷ 1 ∷ 1 ∷ []; depth = de
 unfoldable pub all4 : List ℕ
 all4 = 0 ∷ 1 ∷ 2 ∷ 3 ∷ []
 
--- the digest of k2@1 is `at 2 1`: digests of a round in key order
+-- the digest of k2@1 is the one byte `at 2 1`: digests of a round in key order
 unfoldable pub at : ℕ → ℕ → ℕ
 at k r = 4 * r + k
+
+unfoldable pub genesis4 : List (List ℕ)
+unfolding all4 at
+genesis4 = map (λ k. at k 0 ∷ []) all4
 
 -- member k's certificate of round r, naming the members js of the round below
 unfoldable pub by : ℕ → List ℕ → ℕ → Cert
 unfolding at
-by r js k = record { origin = k; round = r; digest = at k r; parents = map (λ j. at j (r - 1)) js }
+by r js k = record { origin = k; round = r; digest = at k r ∷ []; parents = map (λ j. at j (r - 1) ∷ []) js }
 
 -- round r: the members ks, each naming js
 unfoldable pub round : ℕ → List ℕ → List ℕ → List Cert
@@ -56,7 +61,7 @@ run11 =
 -- how many are listed, their digests, then the digest of each one's leader; or 1000 and the refusal's number
 unfoldable pub saidBy : Answer → List Step → List ℕ
 saidBy (refused k) ps = 1000 ∷ k ∷ []
-saidBy (listed cs) ps = length cs ∷ map (λ (c : Cert). c .digest) cs ++ map (λ (p : Step). p .leader .digest) ps
+saidBy (listed cs) ps = length cs ∷ map (λ (c : Cert). word (c .digest)) cs ++ map (λ (p : Step). word (p .leader .digest)) ps
 
 unfoldable pub saidAll : List Called → List ℕ
 unfolding saidBy
@@ -65,8 +70,8 @@ saidAll (r ∷ rs) = saidBy (r .answer) (r .steps) ++ saidAll rs
 
 -- a run from the fresh start: depth, places, candidate rounds, calls
 unfoldable pub said : ℕ → ℕ → (ℕ → ℕ → List ℕ) → List Cert → List ℕ
-unfolding saidAll four all4
-said depth places candidates cs = saidAll (calls (four depth candidates) places (fresh all4) cs)
+unfolding saidAll four genesis4
+said depth places candidates cs = saidAll (calls (four depth candidates) places (fresh genesis4) cs)
 
 -- ---- what they should say
 

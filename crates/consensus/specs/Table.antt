@@ -1,16 +1,17 @@
 -- The commit table and the ordering's state: document 01, consensus, first two sentences. A certificate is its origin's place in the
--- committee, its round, its digest as a number, and its parents' digests, ascending. Assumes nothing.
+-- committee, its round, its digest, and its parents' digests, ascending. A digest is a string of bytes. Assumes nothing.
 use mathlib.Core.Bool.{Bool, true, false, not, _&&_}
 use mathlib.Core.List.{List, [], _∷_}
 use Prim.Native.Nat.{ℕ, suc, max}
 use lib.Dec.{eqb}
 use lib.ListN.{length, getD, replicate}
+use Rattle.wire.specs.Bytes.{alike}
 
 pub record Cert : Type 0 where
   pub origin : ℕ
   pub round : ℕ
-  pub digest : ℕ
-  pub parents : List ℕ
+  pub digest : List ℕ
+  pub parents : List (List ℕ)
 
 -- each member's last committed round, and what is held, in the order in which it came
 pub record State : Type 0 where
@@ -24,11 +25,11 @@ highest (x ∷ xs) = max x (highest xs)
 
 -- ---- at the start: genesis held at round 0, one digest per member, no parents; every last committed round 0
 
-unfoldable pub genesis : ℕ → List ℕ → List Cert
+unfoldable pub genesis : ℕ → List (List ℕ) → List Cert
 genesis o [] = []
 genesis o (d ∷ ds) = record { origin = o; round = 0; digest = d; parents = [] } ∷ genesis (suc o) ds
 
-unfoldable pub fresh : List ℕ → State
+unfoldable pub fresh : List (List ℕ) → State
 unfolding genesis
 fresh ds = record { last = replicate (length ds) 0; held = genesis 0 ds }
 
@@ -53,7 +54,7 @@ insert x (c ∷ cs) = elim (samePair c x) [ true ↦ x ∷ cs | false ↦ c ∷ 
 unfoldable pub clash : Cert → List Cert → Bool
 unfolding samePair
 clash x [] = false
-clash x (c ∷ cs) = elim (eqb (c .digest) (x .digest) && not (samePair c x)) [ true ↦ true | false ↦ clash x cs ]
+clash x (c ∷ cs) = elim (alike (c .digest) (x .digest) && not (samePair c x)) [ true ↦ true | false ↦ clash x cs ]
 
 -- ---- looking into the table
 
@@ -67,13 +68,13 @@ isEmpty [] = true
 isEmpty (c ∷ cs) = false
 
 abbrev pub none : Cert
-none = record { origin = 0; round = 0; digest = 0; parents = [] }
+none = record { origin = 0; round = 0; digest = []; parents = [] }
 
 -- what a place holds
 unfoldable pub certAt : List Cert → ℕ → Cert
 certAt cs i = getD cs i none
 
 -- the first place with this round and digest; as many as are held, where there is none
-unfoldable pub find : ℕ → ℕ → List Cert → ℕ
+unfoldable pub find : ℕ → List ℕ → List Cert → ℕ
 find r d [] = 0
-find r d (c ∷ cs) = elim (eqb (c .round) r && eqb (c .digest) d) [ true ↦ 0 | false ↦ suc (find r d cs) ]
+find r d (c ∷ cs) = elim (eqb (c .round) r && alike (c .digest) d) [ true ↦ 0 | false ↦ suc (find r d cs) ]

@@ -27,11 +27,11 @@ pub record Sane (held : List Cert) : Type 0 where
 
 module _ (s : State) (sane : Sane (s .held)) (i : ℕ) (li : i < length (s .held)) where
   -- a round above 0, where there are parents
-  above : (x : Cert) → In x (s .held) → (d : ℕ) → In d (x .parents) → suc (x .round - 1) ≡ x .round
+  above : (x : Cert) → In x (s .held) → (d : List ℕ) → In d (x .parents) → suc (x .round - 1) ≡ x .round
   above x h d m = go (x .round) refl
     where
       go : (n : ℕ) → x .round ≡ n → suc (x .round - 1) ≡ x .round
-      go zero e = absurd (subst (λ (ps : List ℕ). In d ps) (sane .ground x h e) m)
+      go zero e = absurd (subst (λ (ps : List (List ℕ)). In d ps) (sane .ground x h e) m)
       go (suc n) e = omega arith
 
   pub reach-seen : (j : ℕ) → Reach (parentsAt s) i j → (j < length (s .held)) × Chain s (certAt (s .held) i) (certAt (s .held) j)

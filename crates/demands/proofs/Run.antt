@@ -97,10 +97,10 @@ demand a places ds F st xs x p =
     let r : Result a h x (accept a places (h .state) x) = step a places h x F H (apart-fresh a places h x p) in
     record { does = does-of a h x (accept a places (h .state) x) r; afterwards = afterwards-of a (call a places h x) p (hist-of a places h x H r) }
 
-pub demand1 : (stakes : List ℕ) (depth places : ℕ) (ds : List ℕ) → let a : Agreed = record { stakes = stakes; depth = depth; candidates = edition1 } in
+pub demand1 : (stakes : List ℕ) (depth places : ℕ) (ds : List (List ℕ)) → let a : Agreed = record { stakes = stakes; depth = depth; candidates = edition1 } in
     Start a ds → (xs : List Cert) (x : Cert) → Apart (call a places (run a places (start ds) xs) x .accepted) → Demand a places (run a places (start ds) xs) x
 demand1 stakes depth places ds st xs x p = demand (record { stakes = stakes; depth = depth; candidates = edition1 }) places ds falling1 st xs x p
 
-pub demand2 : (stakes : List ℕ) (depth places : ℕ) (ds : List ℕ) → let a : Agreed = record { stakes = stakes; depth = depth; candidates = edition2 } in
+pub demand2 : (stakes : List ℕ) (depth places : ℕ) (ds : List (List ℕ)) → let a : Agreed = record { stakes = stakes; depth = depth; candidates = edition2 } in
     Start a ds → (xs : List Cert) (x : Cert) → Apart (call a places (run a places (start ds) xs) x .accepted) → Demand a places (run a places (start ds) xs) x
 demand2 stakes depth places ds st xs x p = demand (record { stakes = stakes; depth = depth; candidates = edition2 }) places ds falling2 st xs x p

@@ -29,14 +29,14 @@ pub record Hist (a : Agreed) (h : History) : Type 0 where
 
 -- the fresh start
 
-gen-in : (ds : List ℕ) (o : ℕ) (c : Cert) → In c (genesis o ds)
-    → (i : ℕ) × (i < length ds) × (c ≡ record { origin = o + i; round = 0; digest = getD ds i 0; parents = [] })
+gen-in : (ds : List (List ℕ)) (o : ℕ) (c : Cert) → In c (genesis o ds)
+    → (i : ℕ) × (i < length ds) × (c ≡ record { origin = o + i; round = 0; digest = getD ds i []; parents = [] })
 unfolding genesis
 gen-in [] o c h = absurd h
 gen-in (d ∷ ds) o c (inl e) = (0, omega arith, rw add-zero e)
 gen-in (d ∷ ds) o c (inr h) = let y = gen-in ds (suc o) c h in (suc (y .0), suc-le-suc (y .1), y .2 ∙ rw (add-suc, suc-add))
 
-gen-distinct : (ds : List ℕ) (o : ℕ) → ((i j : ℕ) → i < length ds → j < length ds → getD ds i 0 ≡ getD ds j 0 → i ≡ j) → Distinct (genesis o ds)
+gen-distinct : (ds : List (List ℕ)) (o : ℕ) → ((i j : ℕ) → i < length ds → j < length ds → getD ds i [] ≡ getD ds j [] → i ≡ j) → Distinct (genesis o ds)
 unfolding genesis
 gen-distinct [] o u = tt
 gen-distinct (d ∷ ds) o u = (
@@ -46,7 +46,7 @@ gen-distinct (d ∷ ds) o u = (
   gen-distinct ds (suc o) (λ i j hi hj e. let z = u (suc i) (suc j) (suc-le-suc hi) (suc-le-suc hj) e in omega arith),
 )
 
-pub begin : (a : Agreed) (ds : List ℕ) → Start a ds → Hist a (start ds)
+pub begin : (a : Agreed) (ds : List (List ℕ)) → Start a ds → Hist a (start ds)
 unfolding start fresh
 begin a ds st =
     record {

@@ -20,9 +20,9 @@ LowerFirst (x ∷ xs) = ((c : Cert) → In c xs → x .round ≤ c .round) × Lo
 -- ---- the premises
 
 -- 'from a fresh start': genesis has one digest per member, all different
-pub record Start (a : Agreed) (ds : List ℕ) : Type 0 where
+pub record Start (a : Agreed) (ds : List (List ℕ)) : Type 0 where
   pub each : length ds ≡ length (a .stakes)
-  pub distinct : (i j : ℕ) → i < length ds → j < length ds → getD ds i 0 ≡ getD ds j 0 → i ≡ j
+  pub distinct : (i j : ℕ) → i < length ds → j < length ds → getD ds i [] ≡ getD ds j [] → i ≡ j
 
 abbrev pub Shares : Cert → Cert → Type 0
 Shares c x = (c .origin ≡ x .origin) × (c .round ≡ x .round)
@@ -129,5 +129,5 @@ pub record Demand (a : Agreed) (places : ℕ) (h : History) (x : Cert) : Type 1 
 
 abbrev pub Statement : Type 1
 Statement =
-    (a : Agreed) (places : ℕ) (ds : List ℕ) → Falling (a .candidates) → Start a ds → (xs : List Cert) (x : Cert)
+    (a : Agreed) (places : ℕ) (ds : List (List ℕ)) → Falling (a .candidates) → Start a ds → (xs : List Cert) (x : Cert)
     → Apart (call a places (run a places (start ds) xs) x .accepted) → Demand a places (run a places (start ds) xs) x

@@ -62,6 +62,9 @@ unfolding alike
 alike-refl [] = refl
 alike-refl (x ∷ xs) = rw (eq-eqb x x refl, alike-refl xs)
 
+pub alike-false : (xs ys : List ℕ) → alike xs ys ≡ false → xs ≡ ys → ⊥
+alike-false xs ys e q = true-not-false (sym (rw (← q) (alike-refl xs)) ∙ e)
+
 -- ---- order of two parts
 module _ (a b : List ℕ) (i j n i′ j′ n′ : ℕ) (p : i′ ≡ i + 1) (q : j′ ≡ j + 1) (r : n ≡ n′ + 1) (ha : i + n ≤ length a) (hb : j + n ≤ length b) where
   pub less-on : getD a i 0 ≡ getD b j 0 → less (part a i n) (part b j n) ≡ less (part a i′ n′) (part b j′ n′)
