@@ -19,3 +19,7 @@ pub mod ClearOnce
 pub mod Size
 pub mod Fits
 pub mod Book
+pub mod Sorting
+pub mod Leading
+pub mod Settling
+pub mod Clearing

@@ -39,7 +39,7 @@ leader a r held = byOrigin (leaderPlace (length (a .stakes)) r) (ofRound r held)
 
 unfoldable pub isIn : List ℕ → List (List ℕ) → Bool
 isIn d [] = false
-isIn d (x ∷ xs) = elim (alike d x) [ true ↦ true | false ↦ isIn d xs ]
+isIn d (x ∷ xs) = elim (alike x d) [ true ↦ true | false ↦ isIn d xs ]
 
 unfoldable pub stakeNaming : List ℕ → List ℕ → List Cert → ℕ
 unfolding isIn

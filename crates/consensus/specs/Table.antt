@@ -78,3 +78,8 @@ certAt cs i = getD cs i none
 unfoldable pub find : ℕ → List ℕ → List Cert → ℕ
 find r d [] = 0
 find r d (c ∷ cs) = elim (eqb (c .round) r && alike (c .digest) d) [ true ↦ 0 | false ↦ suc (find r d cs) ]
+
+-- the first place with this origin and round; as many as are held, where there is none
+unfoldable pub pairPlace : ℕ → ℕ → List Cert → ℕ
+pairPlace o r [] = 0
+pairPlace o r (c ∷ cs) = elim (eqb (c .origin) o && eqb (c .round) r) [ true ↦ 0 | false ↦ suc (pairPlace o r cs) ]

@@ -11,23 +11,9 @@ use borrow.Rule.Slice.PartMut.{putMid}
 use Rattle.wire.specs.Bytes.{splice, bytes}
 use Rattle.wire.specs.Items.{items, itemIn, flat}
 use Rattle.wire.proofs.Laws.{length-part, length-bytes, length-splice, put-mid}
-use Rattle.wire.proofs.Lists.{Sized, none, one, sized-at, sized-take, items-sized, item-is, item-length, length-items, length-flat, flat-append, flat-one, splice-seam, below-mul, next-mul}
+use Rattle.wire.proofs.Lists.{Sized, none, one, sized-at, sized-take, items-sized, item-is, item-length, length-items, length-flat, flat-append, flat-one, splice-seam, splice-next, below-mul, next-mul}
 use Rattle.messages.specs.Header.{authorOf, roundOf, parentCount, payloadCount, parentsOf, payloadOf, digestIn, workerIn}
 use Rattle.messages.specs.Strings.{payloadItem, headerString, voteString}
-
--- ---- a field written behind a field is both fields written
-pub splice-next : (xs ys zs : List ℕ) (at at′ : ℕ) → at′ ≡ at + length ys → at′ + length zs ≤ length xs → splice (splice xs at ys) at′ zs ≡ splice xs at (ys ++ zs)
-unfolding splice
-splice-next xs ys zs at at′ e h =
-    let b : List ℕ = take (length zs) (drop (at + length ys) xs) in
-    let c : List ℕ = drop (length zs) (drop (at + length ys) xs) in
-    let la : length (take at xs ++ ys) ≡ at′ = simp (length-append, length-take) (omega arith) in
-    let lb : length zs ≡ length b = simp (length-take, length-drop) (omega arith) in
-    let s : take at xs ++ (ys ++ drop (at + length ys) xs) ≡ (take at xs ++ ys) ++ (b ++ c) = rw (take-append-drop (length zs) (drop (at + length ys) xs)) (sym (append-assoc (take at xs) ys (drop (at + length ys) xs))) in
-    let m : at + length (ys ++ zs) ≡ at + length ys + length zs = simp length-append (omega arith) in
-    ap (λ (l : List ℕ). splice l at′ zs) s
-    ∙ splice-seam (take at xs ++ ys) b zs c at′ la lb
-    ∙ rw (m, append-assoc, append-assoc, drop-drop)
 
 -- a string that fills all
 pub splice-full : (xs ys : List ℕ) → length ys ≡ length xs → splice xs 0 ys ≡ ys

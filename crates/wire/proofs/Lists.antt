@@ -40,6 +40,20 @@ pub part-seam : (a b c : List ℕ) (at n : ℕ) → length a ≡ at → length b
 unfolding part
 part-seam a b c at n e f = rw (drop-at a (b ++ c) at e) (take-at b c n f)
 
+-- a field written behind a field is both fields written
+pub splice-next : (xs ys zs : List ℕ) (at at′ : ℕ) → at′ ≡ at + length ys → at′ + length zs ≤ length xs → splice (splice xs at ys) at′ zs ≡ splice xs at (ys ++ zs)
+unfolding splice
+splice-next xs ys zs at at′ e h =
+    let b : List ℕ = take (length zs) (drop (at + length ys) xs) in
+    let c : List ℕ = drop (length zs) (drop (at + length ys) xs) in
+    let la : length (take at xs ++ ys) ≡ at′ = simp (length-append, length-take) (omega arith) in
+    let lb : length zs ≡ length b = simp (length-take, length-drop) (omega arith) in
+    let s : take at xs ++ (ys ++ drop (at + length ys) xs) ≡ (take at xs ++ ys) ++ (b ++ c) = rw (take-append-drop (length zs) (drop (at + length ys) xs)) (sym (append-assoc (take at xs) ys (drop (at + length ys) xs))) in
+    let m : at + length (ys ++ zs) ≡ at + length ys + length zs = simp length-append (omega arith) in
+    ap (λ (l : List ℕ). splice l at′ zs) s
+    ∙ splice-seam (take at xs ++ ys) b zs c at′ la lb
+    ∙ rw (m, append-assoc, append-assoc, drop-drop)
+
 -- ---- how many, how long, and which
 pub data Sized (size : ℕ) : List (List ℕ) → Type 0 where
   none : Sized size []

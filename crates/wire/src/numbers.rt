@@ -1,6 +1,7 @@
 // Little-endian numbers.
 ghost use mathlib.Core.Path.{_≡_};
-ghost use Prim.Native.Nat.{_+_, _≤_};
+ghost use mathlib.Core.List.{[], _∷_};
+ghost use Prim.Native.Nat.{_+_, _≤_, _<_};
 ghost use lib.ListN.{length};
 ghost use Rattle.wire.specs.Bytes.{part, splice, word, bytes};
 
@@ -24,6 +25,14 @@ pub fn read_u64(s: &[u8], at: usize) -> u64
     let low = read_u32(s, at);
     let high = read_u32(s, at + 4);
     (low as u64) + (high as u64) * 4294967296
+}
+
+// Puts x into the byte of s at a place.
+pub fn put_u8(s: &mut [u8], at: usize, x: u8)
+    requires { ⌜ at < length (now s) ⌝ }
+    ensures { λ _. ⌜ now (s .exit) ≡ splice (now (s .entry)) at (x ∷ []) ⌝ }
+{
+    s[at] = x;
 }
 
 // Puts x into the four bytes of s from at.

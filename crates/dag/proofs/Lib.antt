@@ -1,0 +1,4 @@
+pub mod Piling
+pub mod Going
+pub mod Placing
+pub mod Listed
