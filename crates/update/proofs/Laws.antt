@@ -94,7 +94,7 @@ module _ (t places list : List ℕ) (n m at : ℕ) (s : heldShape n t ≡ true) 
   entry-long : (i : ℕ) → i < m → length (entryOf (certAt (heldOf t) (getD (numbersOf places) i 0))) ≡ 37
   entry-long i h = length-entry (certAt (heldOf t) (getD (numbersOf places) i 0)) (digest-length t (getD (numbersOf places) i 0) (lawful-shape n t s) (low .each i h))
 
-  each-length : (i : ℕ) → i ≤ m → length (entriesOf (map (certAt (heldOf t)) (take i (numbersOf places)))) ≡ i * 37
+  pub each-length : (i : ℕ) → i ≤ m → length (entriesOf (map (certAt (heldOf t)) (take i (numbersOf places)))) ≡ i * 37
   unfolding entriesOf flat
   each-length zero h = refl
   each-length (suc i) h =

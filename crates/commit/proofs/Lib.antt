@@ -1,0 +1,3 @@
+pub mod Turning
+pub mod Serving
+pub mod Lending

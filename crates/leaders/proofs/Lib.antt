@@ -1,0 +1,10 @@
+pub mod Agreeing
+pub mod Supporting
+pub mod Scanning
+pub mod Gaps
+pub mod Linking
+pub mod Following
+pub mod Walking
+pub mod Opening
+pub mod Joining
+pub mod Deciding
