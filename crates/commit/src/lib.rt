@@ -121,7 +121,18 @@ pub fn serve(
     while 0 < left {
         left -= 1;
         let round = room::get_round(&link[h..], left);
-        at += turn(state, table, n, depth, round, pile, &mut link[0..h], sort, list, at);
+        at += turn(
+            state,
+            table,
+            n,
+            depth,
+            round,
+            pile,
+            &mut link[0..h],
+            sort,
+            list,
+            at,
+        );
     }
     at
 }

@@ -6,7 +6,7 @@ use Prim.Native.Nat.{ℕ, _+_, _-_, _*_, _/_, _≤_, _<_}
 use native.Mathlib.Omega.{arith}
 use lib.ListN.{length, getD, drop, length-drop}
 use Rattle.wire.specs.Items.{items, itemIn}
-use Rattle.wire.proofs.Lists.{item-is, item-fits, item-length, length-items}
+use Rattle.wire.proofs.Lists.{item-is, item-fits, item-length}
 use Rattle.table.proofs.Laws.{is-long}
 use Rattle.config.specs.Members.{membersOf, stakeIn}
 use Rattle.config.specs.Committee.{validMembers, validSetup, total}

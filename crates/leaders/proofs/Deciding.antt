@@ -4,13 +4,13 @@ use mathlib.Core.Bool.{Bool, true, false, not}
 use mathlib.Core.List.{List}
 use Prim.Native.Nat.{ℕ, _+_, _-_, _%_, _≤_, _<_}
 use native.Mathlib.Omega.{arith}
-use borrow.Author.Tests.{leb-true, leb-false, not-true, not-false}
-use lib.Dec.{leb}
+use borrow.Author.Tests.{leb-true, leb-false, ltb-true, ltb-false, not-true, not-false}
+use lib.Dec.{leb, ltb}
 use lib.ListN.{length}
 use Rattle.table.specs.Rows.{countOf}
 use Rattle.config.specs.Committee.{validity}
-use Rattle.consensus.specs.Table.{Cert, certAt, highest, isEmpty, ofRound}
-use Rattle.consensus.specs.Leaders.{Agreed, absent, decide, leader, missing, opens, present, quiet, stakeNaming, totalStake}
+use Rattle.consensus.specs.Table.{certAt, highest, isEmpty, ofRound}
+use Rattle.consensus.specs.Leaders.{absent, decide, leader, present, stakeNaming, totalStake}
 use Rattle.consensus.proofs.Hole.{holeIn}
 use Rattle.consensus.proofs.Leading.{leader-at, leader-off}
 use Rattle.consensus.proofs.Settling.{decide-absent, decide-alone, decide-early, decide-empty, decide-even, decide-hole, decide-old, decide-weak, decide-whole, lowestRound}
@@ -18,7 +18,6 @@ use Rattle.held.specs.Rows.{heldOf, heldShape, lastsOf}
 use Rattle.held.proofs.Laws.{length-held}
 use Rattle.leaders.specs.Setup.{agreedOf, kindOf}
 use Rattle.leaders.specs.Taking.{leaderAt}
-use Rattle.leaders.specs.declared.decide.Decision.{Decision}
 use Rattle.leaders.specs.declared.decide.Decision.the-variants.{Quiet, Missing, Opens}
 use Rattle.leaders.proofs.Agreeing.{agreed-edition}
 use Rattle.leaders.proofs.Following.{digest-whole}
@@ -35,13 +34,22 @@ module _ (s st t : List ℕ) (round : ℕ) where
       pub kind-old : round - 3 ≤ top → Quiet ≡ kindOf (decide (agreedOf s) round (lastsOf st) (heldOf t))
       kind-old h = sym (ap kindOf (decide-old (agreedOf s) round (lastsOf st) (heldOf t) top et h))
 
-      module _ (up : top < round - 3) (p count : ℕ) (ep : p ≡ leaderAt (agreedOf s) (heldOf t) (round - 3)) (ec : count ≡ countOf t) where
-        pub kind-absent : count ≤ p → Quiet ≡ kindOf (decide (agreedOf s) round (lastsOf st) (heldOf t))
-        unfolding leaderAt
-        kind-absent h =
-            let l = length-held t in
-            sym (ap kindOf (decide-absent (agreedOf s) round (lastsOf st) (heldOf t) top et odd five up (leader-off (agreedOf s) (round - 3) (heldOf t) p ep (omega arith))))
+      -- a leader that is not held is quiet, whatever C is
+      pub kind-absent : (p count : ℕ) → p ≡ leaderAt (agreedOf s) (heldOf t) (round - 3) → count ≡ countOf t → count ≤ p → Quiet ≡ kindOf (decide (agreedOf s) round (lastsOf st) (heldOf t))
+      unfolding leaderAt
+      kind-absent p count ep ec h = go (ltb top (round - 3)) refl
+        where
+          l : length (heldOf t) ≡ countOf t
+          l = length-held t
 
+          off : leader (agreedOf s) (round - 3) (heldOf t) ≡ absent
+          off = let e = l in leader-off (agreedOf s) (round - 3) (heldOf t) p ep (omega arith)
+
+          go : (b : Bool) → ltb top (round - 3) ≡ b → Quiet ≡ kindOf (decide (agreedOf s) round (lastsOf st) (heldOf t))
+          go true q = sym (ap kindOf (decide-absent (agreedOf s) round (lastsOf st) (heldOf t) top et odd five (ltb-true top (round - 3) q) off))
+          go false q = kind-old (ltb-false top (round - 3) q)
+
+      module _ (up : top < round - 3) (p count : ℕ) (ep : p ≡ leaderAt (agreedOf s) (heldOf t) (round - 3)) (ec : count ≡ countOf t) where
         module _ (held : p < count) where
           leads : leader (agreedOf s) (round - 3) (heldOf t) ≡ present (certAt (heldOf t) p)
           unfolding leaderAt

@@ -1,7 +1,7 @@
 -- The loop that takes the leaders of a commit: the opening one, then each earlier one that the leader taken last reaches. Assumes nothing.
 use mathlib.Core.Path.{_≡_, refl, sym, ap, subst, _∙_}
 use mathlib.Core.Bool.{Bool, true, false, not}
-use mathlib.Core.List.{List, [], _∷_, _++_, map, reverse, reverse-append}
+use mathlib.Core.List.{List, [], _∷_, map, reverse, reverse-append}
 use Prim.Native.Nat.{ℕ, suc, _+_, _-_, _*_, _^_, _≤_, _<_}
 use native.Mathlib.Numerals.{add-one}
 use native.Mathlib.Omega.{arith}
@@ -18,7 +18,7 @@ use Rattle.consensus.specs.Leaders.{Agreed, Leaders, leaders, leadersFrom, link
 use Rattle.consensus.specs.Candidates.{edition1}
 use Rattle.consensus.proofs.Hole.{holeIn}
 use Rattle.consensus.proofs.Scan.{nextRound}
-use Rattle.consensus.proofs.Leading.{Leading, lead-done, lead-pass, lead-room, lead-start, lead-take, next-falls, next-floor, next-place, next-roof, next-round}
+use Rattle.consensus.proofs.Leading.{Leading, lead-done, lead-pass, lead-room, lead-start, lead-take, next-floor, next-place, next-roof, next-round}
 use Rattle.consensus.proofs.Settling.{lead-lowest, lead-whole, lowestRound}
 use Rattle.held.specs.Rows.{heldOf, heldShape, lastsOf}
 use Rattle.held.proofs.Laws.{length-held}
@@ -60,14 +60,14 @@ pub record Joining (s st t : List ℕ) (opener n low first : ℕ) (rounds₀ mar
 
 -- before the loop: what is added to the last committed round fits, and what is taken off the first round
 module _ (s st t : List ℕ) (opener first : ℕ) (O : Opener (agreedOf s) (lastsOf st) (heldOf t) opener) (ef : first ≡ certAt (heldOf t) opener .round) where
-  pub joining-low : (top : ℕ) → top ≡ highest (lastsOf st) → first < 2 ^ 32 → Fits w32 (top + 2)
-  joining-low top et h =
+  pub joining-low : (top k : ℕ) → top ≡ highest (lastsOf st) → first < 2 ^ 32 → k ≤ 2 → Fits w32 (top + k)
+  joining-low top k et h l =
       let up = opener-above (agreedOf s) (lastsOf st) (heldOf t) opener O in
       let even = opener-even (agreedOf s) (lastsOf st) (heldOf t) opener O in
       record { fits = omega arith }
 
-  pub joining-one : 1 ≤ first
-  joining-one = let two = opener-two (agreedOf s) (lastsOf st) (heldOf t) opener O in omega arith
+  pub joining-two-below : (k : ℕ) → k ≤ 2 → k ≤ first
+  joining-two-below k l = let two = opener-two (agreedOf s) (lastsOf st) (heldOf t) opener O in omega arith
 
 -- at the start the opening leader is taken
 pub joining-start : (s st t : List ℕ) (opener n first top : ℕ) (rounds after marks : List ℕ) → heldShape n t ≡ true → length marks ≡ countOf t → countOf t * 4 ≤ length rounds → length rounds < 2 ^ 64

@@ -1,25 +1,22 @@
 -- The front of a link test: its marks looked through place by place, and followed one round lower. Assumes nothing.
 use mathlib.Core.Path.{_≡_, refl, sym, ap, _∙_}
-use mathlib.Core.Bool.{Bool, true, false, not, _&&_, _||_}
-use mathlib.Core.List.{List, [], _∷_, _++_, append-assoc, append-nil}
-use Prim.Native.Nat.{ℕ, zero, suc, _+_, _-_, _≤_, _<_}
-use native.Mathlib.Nat.{le-of-suc-le-suc, not-suc-le-zero}
+use mathlib.Core.Bool.{Bool, true, false, not, _||_}
+use mathlib.Core.List.{List, [], _∷_}
+use Prim.Native.Nat.{ℕ, _+_, _-_, _≤_, _<_}
 use native.Mathlib.Numerals.{add-one}
 use native.Mathlib.Omega.{arith}
-use borrow.Author.Tests.{eq-eqb, ne-eqb, eqb-true, eqb-false, not-true, not-false}
+use borrow.Author.Tests.{eq-eqb, ne-eqb, not-true, not-false}
 use lib.Dec.{eqb}
-use lib.ListN.{length, getD, set, take, drop, replicate, length-set, length-replicate, drop-of-length-le}
-use lib.Seq.{drop-cons, take-suc, take-suc-set, drop-set-lt, take-all}
-use Rattle.wire.specs.Bytes.{alike, part, splice}
-use Rattle.wire.proofs.Laws.{part-all, true-not-false}
+use lib.ListN.{length, getD, drop, drop-of-length-le}
+use lib.Seq.{drop-cons}
+use Rattle.wire.specs.Bytes.{alike, part}
+use Rattle.wire.proofs.Laws.{part-all}
 use Rattle.table.specs.Rows.{countOf, shaped}
-use Rattle.consensus.specs.Table.{Cert, certAt, isEmpty, none, ofRound}
-use Rattle.consensus.specs.Leaders.{followed, hasDigest, isIn, link, linked, named}
-use Rattle.consensus.proofs.Hole.{holeIn}
-use Rattle.held.specs.Rows.{heldOf, heldShape}
-use Rattle.held.proofs.Laws.{digest-length, held-end, held-step, lawful-shape, length-held}
-use Rattle.leaders.specs.Fronts.{Follows, Unmarked, frontOf, isFront, markedAt}
-use Rattle.leaders.proofs.Gaps.{whole-held, whole-lower}
+use Rattle.consensus.specs.Table.{Cert, certAt}
+use Rattle.consensus.specs.Leaders.{hasDigest, isIn, named}
+use Rattle.held.specs.Rows.{heldOf}
+use Rattle.held.proofs.Laws.{digest-length, held-step}
+use Rattle.leaders.specs.Fronts.{frontOf, isFront}
 
 -- ---- one place
 
@@ -49,7 +46,7 @@ module _ (d : List ℕ) (r m : ℕ) (c : Cert) (b : Bool) (e : b ≡ isFront r m
       go true q = rw (q, named) (f ∙ q)
       go false q = rw (q, named) (f ∙ q)
 
-  pub has-is : not b ≡ false → (x : List ℕ) (y : Bool) → length d ≡ 32 → length (c .digest) ≡ 32 → x ≡ c .digest → y ≡ alike (part x 0 32) (part d 0 32)
+  has-is : not b ≡ false → (x : List ℕ) (y : Bool) → length d ≡ 32 → length (c .digest) ≡ 32 → x ≡ c .digest → y ≡ alike (part x 0 32) (part d 0 32)
       → y ≡ hasDigest d (frontOf r (m ∷ []) (c ∷ []))
   unfolding frontOf hasDigest
   has-is h x y ld lc f g =
@@ -62,13 +59,10 @@ module _ (d : List ℕ) (r m : ℕ) (c : Cert) (b : Bool) (e : b ≡ isFront r m
       go z true q = rw (q, hasDigest) (z ∙ q)
       go z false q = rw (q, hasDigest) (z ∙ q)
 
-module _ (t : List ℕ) (i : ℕ) (s : shaped 1062 t ≡ true) (h : i < countOf t) where
-  pub digest-reach : (x : List ℕ) → x ≡ certAt (heldOf t) i .digest → 0 + 32 ≤ length x
-  digest-reach x e = let l = digest-length t i s h in let k = ap length e in omega arith
-
-  pub has-digest-is : (d x marks : List ℕ) (r : ℕ) (b y : Bool) → length d ≡ 32 → b ≡ isFront r (getD marks i 0) (certAt (heldOf t) i) → not b ≡ false → x ≡ certAt (heldOf t) i .digest
-      → y ≡ alike (part x 0 32) (part d 0 32) → y ≡ hasDigest d (frontOf r (getD marks i 0 ∷ []) (certAt (heldOf t) i ∷ []))
-  has-digest-is d x marks r b y ld e g f k = has-is d r (getD marks i 0) (certAt (heldOf t) i) b e g x y ld (digest-length t i s h) f k
+pub has-digest-is : (t : List ℕ) (i : ℕ) → shaped 1062 t ≡ true → i < countOf t → (d x marks : List ℕ) (r : ℕ) (b y : Bool) → length d ≡ 32
+    → b ≡ isFront r (getD marks i 0) (certAt (heldOf t) i) → not b ≡ false → x ≡ certAt (heldOf t) i .digest → y ≡ alike (part x 0 32) (part d 0 32)
+    → y ≡ hasDigest d (frontOf r (getD marks i 0 ∷ []) (certAt (heldOf t) i ∷ []))
+has-digest-is t i s h d x marks r b y ld e g f k = has-is d r (getD marks i 0) (certAt (heldOf t) i) b e g x y ld (digest-length t i s h) f k
 
 -- ---- all places: a test P of the front, which holds where it holds of one of the front
 

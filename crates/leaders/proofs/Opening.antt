@@ -10,14 +10,14 @@ use Rattle.consensus.specs.Leaders as ordering
 use Rattle.consensus.specs.Leaders.{Agreed, decide, leader, leaders, leadersFrom, missing, opens, present, quiet}
 use Rattle.consensus.specs.Candidates.{edition1}
 use Rattle.consensus.proofs.Hole.{holeIn}
-use Rattle.consensus.proofs.Leading.{leader-at, leader-place, leader-cert, pair-round}
-use Rattle.consensus.proofs.Settling.{Opening, lowestRound, opening, opens-order, opens-whole}
+use Rattle.consensus.proofs.Leading.{leader-place, leader-cert, pair-round}
+use Rattle.consensus.proofs.Settling.{Opening, lowestRound, opening, opens-whole}
 use Rattle.config.specs.Committee.{leaderPlace}
 use Rattle.room.specs.Numbers.{roundsOf}
 use Rattle.leaders.specs.Setup.{kindOf}
 use Rattle.leaders.specs.Taking.{Opener, Taken, leaderAt, leaderIn}
 use Rattle.leaders.specs.declared.decide.Decision.{Decision}
-use Rattle.leaders.specs.declared.decide.Decision.the-variants.{Quiet, Missing, Opens}
+use Rattle.leaders.specs.declared.decide.Decision.the-variants.{Opens}
 
 opens-is : (d : ordering.Decision) → kindOf d ≡ Opens → (ls : List Cert) × (d ≡ opens ls)
 opens-is quiet e = let z : _≡_ {A = ℕ} 0 1 = cc in absurd (omega arith)

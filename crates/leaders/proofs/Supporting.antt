@@ -5,13 +5,15 @@ use mathlib.Core.List.{List, [], _∷_}
 use Prim.Native.Nat.{ℕ, _+_, _-_, _/_, _≤_, _<_}
 use native.Mathlib.Nat.{add-zero}
 use native.Mathlib.Omega.{arith}
-use borrow.Author.Tests.{eq-eqb, ne-eqb, le-leb, lt-leb, not-true, not-false}
+use borrow.Author.Tests.{eq-eqb, ne-eqb, le-leb, lt-leb, leb-true, not-true, not-false}
 use lib.Dec.{eqb, leb}
 use lib.ListN.{length, getD, drop}
+use Rattle.wire.specs.Items.{allOf, sumOf}
+use Rattle.wire.proofs.Lists.{all-at}
 use Rattle.table.specs.Rows.{countOf}
-use Rattle.config.specs.Members.{membersOf}
-use Rattle.config.specs.Committee.{validSetup, validity, total}
-use Rattle.config.proofs.Laws.{valid, valid-setup}
+use Rattle.config.specs.Members.{membersOf, stakeIn, workerCount, lawful}
+use Rattle.config.specs.Committee.{validMembers, validSetup, validity, total}
+use Rattle.config.proofs.Laws.{both, length-members, valid, valid-setup}
 use Rattle.consensus.specs.Table.{Cert, certAt, ofRound}
 use Rattle.consensus.specs.Leaders.{isIn, stakeNaming, totalStake}
 use Rattle.held.specs.Rows.{heldOf, heldShape}
@@ -54,6 +56,20 @@ naming-cons ss d r c cs = go (eqb (c .round) r) refl (isIn d (c .parents)) refl
 pub member-below : (s t : List ℕ) (i o : ℕ) → heldShape ((length s - 8) / 69) t ≡ true → i < countOf t → o ≡ certAt (heldOf t) i .origin → o < (length s - 8) / 69
 member-below s t i o h l e = rw e (origin-below ((length s - 8) / 69) t i h l)
 
+-- ---- validity is not 0: each member has stake
+
+sum-some : (rs : List (List ℕ)) → allOf lawful rs ≡ true → 1 ≤ length rs → 1 ≤ sumOf stakeIn rs
+unfolding sumOf lawful
+sum-some [] e h = absurd (omega arith)
+sum-some (m ∷ ms) e h =
+    let t = both (leb 1 (stakeIn m)) (leb (workerCount m) 8) (all-at lawful (m ∷ ms) 0 e (omega arith)) .0 in
+    let l = leb-true 1 (stakeIn m) t in
+    omega arith
+
+total-some : (ms : List ℕ) → validMembers ms ≡ true → 1 ≤ total (membersOf ms)
+unfolding total
+total-some ms v = let w = valid ms v in let o = w .one in let l = length-members ms in sum-some (membersOf ms) (w .each) (omega arith)
+
 -- ---- the sum
 
 pub record Summing (s t d : List ℕ) (r need count sum i : ℕ) : Type 0 where
@@ -61,7 +77,7 @@ pub record Summing (s t d : List ℕ) (r need count sum i : ℕ) : Type 0 where
   pub all : count ≡ countOf t
   pub high : i ≤ count
   pub few : need ≤ 16777216
-  pub small : sum ≤ 16777216
+  pub under : sum < need
   pub left : stakeNaming (agreedOf s .stakes) d (ofRound r (heldOf t)) ≡ sum + stakeNaming (agreedOf s .stakes) d (ofRound r (drop i (heldOf t)))
 
 pub summing-start : (s t d ms : List ℕ) (r need count : ℕ) → validSetup s ≡ true → ms ≡ drop 8 s → need ≡ validity (total (membersOf ms)) → count ≡ countOf t
@@ -69,18 +85,20 @@ pub summing-start : (s t d ms : List ℕ) (r need count : ℕ) → validSetup s 
 unfolding validity
 summing-start s t d ms r need count v e f g =
     let w = valid (drop 8 s) (valid-setup s v .members) .weight in
+    let o = total-some (drop 8 s) (valid-setup s v .members) in
     let p : need ≡ validity (total (membersOf (drop 8 s))) = f ∙ ap (λ (m : List ℕ). validity (total (membersOf m))) e in
-    record { is = p ∙ ap validity (sym (agreed-total s)); all = g; high = omega arith; few = omega arith; small = omega arith; left = omega arith }
+    record { is = p ∙ ap validity (sym (agreed-total s)); all = g; high = omega arith; few = omega arith; under = omega arith; left = omega arith }
 
 module _ (s t d : List ℕ) (r need count sum i : ℕ) (S : Summing s t d r need count sum i) where
-  pub summing-done : count ≤ i → leb need sum ≡ leb (validity (totalStake (agreedOf s .stakes))) (stakeNaming (agreedOf s .stakes) d (ofRound r (heldOf t)))
+  pub summing-done : count ≤ i → false ≡ leb (validity (totalStake (agreedOf s .stakes))) (stakeNaming (agreedOf s .stakes) d (ofRound r (heldOf t)))
   unfolding ofRound stakeNaming
   summing-done h =
       let a = S .all in
+      let n = S .is in
+      let u = S .under in
       let z : stakeNaming (agreedOf s .stakes) d (ofRound r (drop i (heldOf t))) ≡ 0 = rw (held-end t i (omega arith)) in
       let l = S .left in
-      let e : sum ≡ stakeNaming (agreedOf s .stakes) d (ofRound r (heldOf t)) = omega arith in
-      ap (λ (k : ℕ). leb k sum) (S .is) ∙ ap (leb (validity (totalStake (agreedOf s .stakes)))) e
+      sym (lt-leb (validity (totalStake (agreedOf s .stakes))) (stakeNaming (agreedOf s .stakes) d (ofRound r (heldOf t))) (omega arith))
 
   module _ (h : i < count) where
     pub summing-below : i < countOf t
@@ -101,4 +119,4 @@ module _ (s t d : List ℕ) (r need count sum i : ℕ) (S : Summing s t d r need
           sym (le-leb (validity (totalStake (agreedOf s .stakes))) (stakeNaming (agreedOf s .stakes) d (ofRound r (heldOf t))) (omega arith))
 
       pub summing-next : sum + x < need → Summing s t d r need count (sum + x) (i + 1)
-      summing-next g = let f = S .few in record { is = S .is; all = S .all; high = omega arith; few = f; small = omega arith; left = on }
+      summing-next g = record { is = S .is; all = S .all; high = omega arith; few = S .few; under = g; left = on }

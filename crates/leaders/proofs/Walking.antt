@@ -1,6 +1,6 @@
 -- The link test, one round at a time, and its first marks. Assumes nothing.
 use mathlib.Core.Path.{_≡_, refl, sym, ap, _∙_}
-use mathlib.Core.Bool.{Bool, true, false}
+use mathlib.Core.Bool.{Bool, false}
 use mathlib.Core.List.{List, [], _∷_, append-nil}
 use Prim.Native.Nat.{ℕ, zero, suc, _+_, _-_, _≤_, _<_}
 use native.Mathlib.Nat.{le-of-suc-le-suc, not-suc-le-zero}
@@ -13,7 +13,7 @@ use Rattle.consensus.specs.Leaders.{followed, hasDigest, link, linked}
 use Rattle.consensus.proofs.Hole.{holeIn}
 use Rattle.held.specs.Rows.{heldOf}
 use Rattle.held.proofs.Laws.{length-held}
-use Rattle.leaders.specs.Fronts.{Follows, Unmarked, frontOf, isFront}
+use Rattle.leaders.specs.Fronts.{Follows, Unmarked, frontOf}
 use Rattle.leaders.proofs.Following.{front-clear, front-on, front-off}
 use Rattle.leaders.proofs.Gaps.{whole-held, whole-lower}
 

@@ -21,7 +21,11 @@ pub fn leader(setup: &[u8], table: &[u8], round: u32) -> usize
     ensures { λ p. ⌜ p ≡ leaderAt (agreedOf (now (setup .entry))) (heldOf (now (table .entry))) round ⌝ }
 {
     let n = (setup.len() - 8) / MEMBER;
-    held::place::place_of(table, config::committee::leader_place(n, round as u64), round)
+    held::place::place_of(
+        table,
+        config::committee::leader_place(n, round as u64),
+        round,
+    )
 }
 
 // Whether place i holds its round's leader, at r, r - 2 and so on, not below low.
@@ -78,7 +82,7 @@ fn lower(a: u32, b: u32) -> u32
         return a;
     }
     if a < b {
-        return a;
+        return a; // the lower
     }
     b
 }

@@ -9,9 +9,9 @@ ghost use Rattle.held.specs.Rows.{heldOf, heldShape, lastsOf};
 ghost use Rattle.leaders.specs.Setup.{agreedOf, kindOf};
 
 pub enum Decision {
-    Quiet,   // no commit is tried, or its leader is not held, or not supported
+    Quiet, // no commit is tried, or its leader is not held, or not supported
     Missing, // a round that the Rust would visit holds nothing: refusal 13
-    Opens,   // a commit of the leader three rounds below and of those that join
+    Opens, // a commit of the leader three rounds below and of those that join
 }
 
 // What a certificate of this round opens.
@@ -33,7 +33,7 @@ pub fn decide(setup: &[u8], state: &[u8], table: &[u8], round: u32) -> Decision
     }
     let p = crate::candidates::leader(setup, table, round - 3);
     if table::rows::count(table) <= p {
-        return Decision::Quiet;
+        return Decision::Quiet; // its leader is not held
     }
     if !held::place::has_round(table, round - 2) {
         return Decision::Missing;
@@ -43,10 +43,10 @@ pub fn decide(setup: &[u8], state: &[u8], table: &[u8], round: u32) -> Decision
     }
     let q = crate::candidates::lowest_round(setup, table, top + 2, round - 4);
     if q == 0 {
-        return Decision::Opens;
+        return Decision::Opens; // alone
     }
     if crate::link::is_unbroken(table, q, round - 3) {
-        return Decision::Opens;
+        return Decision::Opens; // no link test meets a gap
     }
     Decision::Missing
 }

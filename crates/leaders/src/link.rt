@@ -1,6 +1,6 @@
 // Rounds without a gap, and the link test between two leaders, each by a walk that calls itself one round lower.
 ghost use mathlib.Core.Path.{_≡_};
-ghost use mathlib.Core.Bool.{true, false, not, _&&_};
+ghost use mathlib.Core.Bool.{true, false, not};
 ghost use mathlib.Core.List.{[], _∷_};
 ghost use Prim.Native.Nat.{_-_, _<_, _≤_};
 ghost use lib.ListN.{length, getD};
@@ -137,14 +137,7 @@ fn follow(table: &[u8], n: usize, marks: &mut [u8], upper: u32)
 }
 
 // Whether the front in round upper reaches the digest of round lower through held parents. No round between holds nothing.
-fn linked(
-    table: &[u8],
-    n: usize,
-    marks: &mut [u8],
-    upper: u32,
-    lower: u32,
-    digest: &[u8],
-) -> bool
+fn linked(table: &[u8], n: usize, marks: &mut [u8], upper: u32, lower: u32, digest: &[u8]) -> bool
     requires { ⌜ heldShape n (now table) ≡ true ⌝ }
     requires { ⌜ length (now marks) ≡ countOf (now table) ⌝ }
     requires { ⌜ length (now digest) ≡ 32 ⌝ }
@@ -175,5 +168,12 @@ pub fn reaches(table: &[u8], n: usize, marks: &mut [u8], from: usize, to: usize)
     marks[from] = 1;
     let upper = held::place::round_at(table, from);
     let lower = held::place::round_at(table, to);
-    linked(table, n, marks, upper, lower, held::place::digest_at(table, to))
+    linked(
+        table,
+        n,
+        marks,
+        upper,
+        lower,
+        held::place::digest_at(table, to),
+    )
 }

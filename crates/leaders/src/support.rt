@@ -58,5 +58,5 @@ pub fn is_supported(setup: &[u8], table: &[u8], round: u32, digest: &[u8]) -> bo
         }
         i += 1;
     }
-    need <= sum
+    false
 }

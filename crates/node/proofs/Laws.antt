@@ -16,7 +16,10 @@ use Rattle.aggregators.specs.declared.answers.Answer as aggregators-answer
 use Rattle.proposer.specs.Events.{After, Left}
 use Rattle.proposer.specs.Events as proposer
 use Rattle.proposer.specs.declared.events.Answer as proposer-answer
-use Rattle.node.specs.Promises.{HeaderString, VoteString, CountVote, CountCertificate, GetParents, MissingPayload, Learn, Proposed}
+use Rattle.ordering.specs.Start.{Started}
+use Rattle.ordering.specs.Answers as ordering
+use Rattle.ordering.specs.declared.answers.Answer as ordering-answer
+use Rattle.node.specs.Promises.{HeaderString, VoteString, CountVote, CountCertificate, GetParents, MissingPayload, Learn, Proposed, OrderingStart}
 
 module _ (r : ℕ) (a : messages-answer.Answer) (e : r ≡ messages.codeOf a) where
   pub header-string : (header out : List ℕ) (at : ℕ) (out′ : List ℕ) → Written (mayHeader header out at) (headerString header) out at a out′ → HeaderString header out at r out′
@@ -45,3 +48,8 @@ module _ (r : ℕ) (a : aggregators-answer.Answer) (e : r ≡ aggregators.codeOf
   pub count-certificate : (members counts : List ℕ) (round : ℕ) (origin digest out counts′ out′ : List ℕ) → CountsCertificate members counts round origin digest out a counts′ out′ → CountCertificate members counts round origin digest out r counts′ out′
   count-certificate members counts round origin digest out counts′ out′ w =
       record { answer = e ∙ ap aggregators.codeOf (w .answer); counts-are = w .counts; buffer = w .buffer }
+
+module _ (r : ℕ) (a : ordering-answer.Answer) (e : r ≡ ordering.codeOf a) where
+  pub ordering-start : (setup genesis state table state′ table′ : List ℕ) → Started setup genesis state table a state′ table′ → OrderingStart setup genesis state table r state′ table′
+  ordering-start setup genesis state table state′ table′ w =
+      record { answer = e ∙ ap ordering.codeOf (w .answer); state-is = w .state; table-is = w .table }

@@ -9,7 +9,7 @@ use Rattle.checks.specs.Header.{headerCheck}
 use Rattle.checks.specs.Vote.{voteCheck}
 use Rattle.checks.specs.Certificate.{certificateCheck}
 use Rattle.proposer.specs.Events.{After}
-use Rattle.node.specs.Promises.{HeaderString, VoteString, CountVote, CountCertificate, GetParents, MissingPayload, Learn, Proposed}
+use Rattle.node.specs.Promises.{HeaderString, VoteString, CountVote, CountCertificate, GetParents, MissingPayload, Learn, Proposed, OrderingStart}
 use Rattle.config.specs.Answers.{codeOf, committeeAnswer, setupAnswer, quorumAnswer, validityAnswer, stakeAnswer, workerAnswer, leaderAnswer}
 
 module _ (r s : ℕ) where
@@ -77,3 +77,8 @@ same-count-vote members voters author r s u v p q = (p .answer ∙ sym (q .answe
 pub same-count-certificate : (members counts : List ℕ) (round : ℕ) (origin digest out : List ℕ) (r s : ℕ) (t u v w : List ℕ) → CountCertificate members counts round origin digest out r t v → CountCertificate members counts round origin digest out s u w → (r ≡ s) × ((t ≡ u) × (v ≡ w))
 same-count-certificate members counts round origin digest out r s t u v w p q =
     (p .answer ∙ sym (q .answer), (p .counts-are ∙ sym (q .counts-are), p .buffer ∙ sym (q .buffer)))
+
+-- ---- ordering
+pub same-ordering-start : (setup genesis state table : List ℕ) (r s : ℕ) (t u v w : List ℕ) → OrderingStart setup genesis state table r t v → OrderingStart setup genesis state table s u w → (r ≡ s) × ((t ≡ u) × (v ≡ w))
+same-ordering-start setup genesis state table r s t u v w p q =
+    (p .answer ∙ sym (q .answer), (p .state-is ∙ sym (q .state-is), p .table-is ∙ sym (q .table-is)))

@@ -5,7 +5,8 @@ use mathlib.Core.Bool.{_&&_}
 use mathlib.Core.List.{List}
 use Prim.Native.Nat.{ℕ}
 use lib.Dec.{eqb}
-use lib.ListN.{length}
+use lib.ListN.{length, drop}
+use Rattle.config.specs.Members.{membersOf}
 use Rattle.config.specs.Committee.{validMembers}
 use Rattle.messages.specs.Strings.{headerString, voteString}
 use Rattle.messages.specs.Answers.{writtenAnswer, writtenOut, mayHeader, mayVote}
@@ -18,6 +19,9 @@ use Rattle.synchronizer.specs.Answers.{outAs, lookable, missingOf, parentsAnswe
 use Rattle.synchronizer.specs.Answers as synchronizer
 use Rattle.proposer.specs.Events.{After}
 use Rattle.proposer.specs.Events as proposer
+use Rattle.ordering.specs.Answers.{whenDone}
+use Rattle.ordering.specs.Answers as ordering
+use Rattle.ordering.specs.Start.{startAnswer, digestsOf, freshState, freshTable}
 
 -- ---- messages
 pub record HeaderString (header out : List ℕ) (at r : ℕ) (out′ : List ℕ) : Type 0 where
@@ -57,3 +61,9 @@ pub record Proposed (a : After) (r : ℕ) (state header : List ℕ) : Type 0 whe
   pub answer : r ≡ proposer.codeOf (a .answer)
   pub state-is : state ≡ a .state
   pub header-is : header ≡ a .header
+
+-- ---- ordering
+pub record OrderingStart (setup genesis state table : List ℕ) (r : ℕ) (state′ table′ : List ℕ) : Type 0 where
+  pub answer : r ≡ ordering.codeOf (startAnswer setup genesis state table)
+  pub state-is : state′ ≡ whenDone (startAnswer setup genesis state table) (freshState (length (membersOf (drop 8 setup)))) state
+  pub table-is : table′ ≡ whenDone (startAnswer setup genesis state table) (freshTable (length table) (digestsOf genesis)) table

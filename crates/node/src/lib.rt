@@ -6,3 +6,4 @@ pub mod verdicts; // checks of header, vote and certificate
 pub mod count; // votes and certificates counted
 pub mod sync; // parents and payload, the known table
 pub mod propose; // the proposer's start and events
+pub mod order; // the ordering's start and certificates

@@ -15,6 +15,7 @@ use Rattle.table.proofs.rows.count.Reads as count-reads
 use Rattle.held.proofs.Laws.{lawful-shape}
 use Rattle.leaders.proofs.Agreeing.{held-long}
 use Rattle.leaders.proofs.Deciding.{kind-even, kind-early, kind-old, kind-absent, kind-empty, kind-weak, kind-alone, kind-whole, kind-hole, leader-digest}
+use native.Mathlib.Nat.{le-of-lt}
 
 returns : tie.Need-returns
 returns c = search kind-even
@@ -29,7 +30,7 @@ sub-if3 : tie.Need-sub-if3
 sub-if3 c = search needs
 
 returns-3 : tie.Need-returns-3
-returns-3 c = search kind-old
+returns-3 c = search (kind-old, le-of-lt)
 
 sub-leader : tie.Need-sub-leader
 sub-leader c = search needs

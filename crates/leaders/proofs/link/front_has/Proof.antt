@@ -7,7 +7,8 @@ use Rattle.leaders.proofs.link.front_has.Lts as lts
 use Rattle.held.proofs.place.digest_at.Reads as digest-at-reads
 use Rattle.leaders.proofs.link.is_front.Reads as is-front-reads
 use Rattle.wire.proofs.bytes.same32.Reads as same32-reads
-use Rattle.leaders.proofs.Linking.{has-not, has-digest-is, digest-reach}
+use Rattle.held.proofs.Laws.{digest-reach}
+use Rattle.leaders.proofs.Linking.{has-not, has-digest-is}
 
 is-front-requires : tie.Need-is-front-requires
 is-front-requires c κs = search needs

@@ -13,7 +13,7 @@ use Rattle.room.proofs.put_round.Reads as put-round-reads
 use Rattle.held.proofs.Laws.{lawful-shape}
 use Rattle.leaders.proofs.Agreeing.{setup-long}
 use Rattle.leaders.proofs.Joining.{Joining, joining-start, joining-last, joining-done, joining-two, joining-falls, joining-place, joining-below, joining-whole, joining-room, joining-pass, joining-take}
-use Rattle.leaders.proofs.Joining.{joining-low, joining-one}
+use Rattle.leaders.proofs.Joining.{joining-low, joining-two-below}
 
 abbrev Inv-loop : tie.InvT-loop
 Inv-loop setup state table opener marks₀ rounds₀ n first low last₀ k₀ r₀ marks rounds last k r = Joining setup state table opener n low first rounds₀ marks rounds last k r
@@ -31,13 +31,13 @@ highest-requires : tie.Need-highest-requires Inv-loop μ-loop
 highest-requires c κs = search needs
 
 add-low : tie.Need-add-low Inv-loop μ-loop
-add-low c = search joining-low
+add-low c = search (needs, joining-low)
 
 put-round-requires : tie.Need-put-round-requires Inv-loop μ-loop
 put-round-requires c κs = search needs
 
 sub-r : tie.Need-sub-r Inv-loop μ-loop
-sub-r c = search joining-one
+sub-r c = search (needs, joining-two-below)
 
 loop-holds : tie.Need-loop-holds Inv-loop μ-loop
 loop-holds c = search joining-start
@@ -61,7 +61,7 @@ sub-r-2 : tie.Need-sub-r-2 Inv-loop μ-loop
 sub-r-2 c = search (needs, joining-two)
 
 reaches-requires : tie.Need-reaches-requires Inv-loop μ-loop
-reaches-requires c κs = 
+reaches-requires c κs =
     let l = c .before .before .before .before in
     let J = l .loop .inv in
     let e = c .before .before .before .next-round .ensures in

@@ -11,6 +11,7 @@ use Rattle.table.proofs.rows.count.Reads as count-reads
 use Prim.Native.Nat.{_-_}
 use Rattle.leaders.proofs.Agreeing.{setup-long, setup-members, held-long}
 use Rattle.leaders.proofs.Supporting.{Summing, summing-start, summing-done, summing-below, summing-hit, summing-next}
+use native.Mathlib.Nat.{le-of-lt}
 
 abbrev Inv-loop : tie.InvT-loop
 Inv-loop setup table round digest need count sum₀ i₀ sum i = Summing setup table digest round need count sum i
@@ -43,7 +44,7 @@ add-sum : tie.Need-add-sum Inv-loop μ-loop
 add-sum c = search needs
 
 returns : tie.Need-returns Inv-loop μ-loop
-returns c = search summing-hit
+returns c = search (summing-hit, le-of-lt)
 
 add-i : tie.Need-add-i Inv-loop μ-loop
 add-i c = search needs

@@ -41,7 +41,7 @@ digest-at-requires : tie.Need-digest-at-requires
 digest-at-requires c κs = search (needs, lawful-shape)
 
 put-bytes-requires : tie.Need-put-bytes-requires
-put-bytes-requires c κs = let s = c .before .before .before .before .before .before .before .before .before .before .before .before .before .before in omega (arith, digest-long (s .args .table .now) (s .args .n) (s .args .i) (s .pre .0) (s .pre .1 .0) (s .pre .1 .1 .0) _ (c .digest-at .ensures))
+put-bytes-requires c κs = let s = c .before .before .before .before .before .before .before .before .before .before .before .before .before .before in omega (arith, digest-long (s .args .table .now) (s .args .n) _ (s .pre .0) (s .pre .1 .0) (omega arith) _ (c .digest-at .ensures))
 
 same-length : tie.Need-same-length
 same-length c = search needs

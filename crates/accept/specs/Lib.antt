@@ -1,0 +1,4 @@
+pub mod Shape
+pub mod Course
+pub mod Commits
+pub mod Accept
