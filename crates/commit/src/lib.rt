@@ -1,4 +1,6 @@
 // A commit: leader by leader what is due is listed, last committed rounds are raised, and the table is cleared.
+#![tactic(auto)]
+
 ghost use Rattle.std.specs.Prelude.{◌≡◌, true, ◌+◌, ◌*◌, ◌≤◌, ◌<◌, length, take, drop, map};
 ghost use Rattle.table.specs.Rows.{count_of};
 ghost use Rattle.config.specs.Committee.{leader_place};

@@ -1,4 +1,6 @@
 // What is listed under one leader: walked, the deep dropped, sorted by round.
+#![tactic(auto)]
+
 mod pile; // certificates put on the pile
 mod walk; // the walk from a leader
 mod sort; // the list by round

@@ -1,4 +1,6 @@
 // Genesis: one record for each member, in the members' order. A record: round 4, origin key 32, digest 32.
+#![tactic(auto)]
+
 ghost use Rattle.std.specs.Prelude.{◌≡◌, ◌+◌, ◌-◌, ◌*◌, ◌≤◌, ◌<◌, length};
 ghost use Rattle.wire.specs.Items.{items, item_in, first_of, has_part};
 ghost use Rattle.genesis.specs.Genesis.{record_digest, belongs, paired, distinct, valid_genesis};

@@ -1,4 +1,6 @@
 // The commit table and the ordering's state: what a place holds, and what is found.
+#![tactic(auto)]
+
 pub mod row; // a row's fields
 pub mod place; // the certificate at a place
 pub mod whole; // the table's shape, and whether a digest clashes

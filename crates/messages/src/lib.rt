@@ -1,4 +1,6 @@
 // Headers, votes and certificates: their layouts and shapes, and the strings that are hashed.
+#![tactic(auto)]
+
 pub mod header; // a header's fields and shape
 pub mod vote; // a vote's
 pub mod certificate; // a certificate's

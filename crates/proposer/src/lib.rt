@@ -1,4 +1,6 @@
 // The proposer: gathers parents and waiting digests, and makes the next header of them.
+#![tactic(auto)]
+
 pub mod sorted; // items in ascending order, each digest once
 pub mod state; // the state: what it says, and what each step leaves in it
 pub mod header; // the header made of a state

@@ -1,4 +1,6 @@
 // Numbers that stand one behind the other in lent bytes.
+#![tactic(auto)]
+
 ghost use Rattle.std.specs.Prelude.{◌≡◌, ◌+◌, ◌*◌, ◌≤◌, length, get_or};
 ghost use Rattle.room.specs.Numbers.{numbers_of, rounds_of, Put};
 

@@ -1,4 +1,6 @@
 // Keeping some rows of a table: those kept stay in order and move together, and zeros stand between the new count and the old.
+#![tactic(auto)]
+
 ghost use Rattle.std.specs.Prelude.{◌≡◌, true, ◌+◌, ◌-◌, ◌*◌, ◌≤◌, length};
 ghost use Rattle.table.specs.Rows.{shaped};
 ghost use Rattle.sweep.specs.Kept.{kept, went, moved, counted, finished, from_round};

@@ -1,4 +1,6 @@
 // Parents and payload of a header: found, or what is missing.
+#![tactic(auto)]
+
 pub mod picks; // items picked into a buffer
 pub mod parents; // a parent looked up, the missing ones, delivery
 pub mod payload; // the missing payload

@@ -1,4 +1,6 @@
 // What a listing writes: the list's entries, the last committed rounds raised, and the table cleared.
+#![tactic(auto)]
+
 pub mod entries; // the list
 pub mod raise; // last committed rounds
 pub mod clear; // the table

@@ -1,0 +1,19 @@
+use Rattle.config.proofs.Laws.{valid-size, valid-weight, quorum-is}
+use native.Mathlib.Omega.{arith}
+use borrow.Author.Rules.{rules}
+use Rattle.config.proofs.committee.quorum_threshold.Goals as goal
+
+pub total_stake-requires : goal.total_stake-requires
+total_stake-requires c = search valid-size
+
+pub overflow_mul-result : goal.overflow_mul-result
+overflow_mul-result c = omega (arith, valid-weight c.args.members.now _ c.requires c.total_stake.ensures)
+
+pub overflow_add-result : goal.overflow_add-result
+overflow_add-result c = omega (arith, valid-weight c.args.members.now _ c.requires c.total_stake.ensures)
+
+pub overflow_cast-result : goal.overflow_cast-result
+overflow_cast-result c = omega (arith, valid-weight c.args.members.now _ c.requires c.total_stake.ensures)
+
+pub returns : goal.returns
+returns c = search quorum-is

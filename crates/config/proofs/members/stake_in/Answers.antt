@@ -1,0 +1,8 @@
+use Rattle.config.specs.Members.{stake_in}
+use native.Mathlib.Omega.{arith}
+use borrow.Author.Rules.{rules}
+use Rattle.config.proofs.members.stake_in.Goals as goal
+
+pub returns : goal.returns
+unfolding stake_in
+returns c = search rules

@@ -1,0 +1,10 @@
+use Rattle.messages.proofs.Replies.{room-not, room-last}
+use native.Mathlib.Omega.{arith}
+use borrow.Author.Rules.{rules}
+use Rattle.messages.proofs.answers.has_room.Goals as goal
+
+pub returns-then-out-at : goal.returns-then-out-at
+returns-then-out-at c = search room-not
+
+pub returns : goal.returns
+returns c = search room-last

@@ -1,0 +1,10 @@
+use Rattle.messages.proofs.Laws.{round-low, round-high}
+use native.Mathlib.Omega.{arith}
+use borrow.Author.Rules.{rules}
+use Rattle.messages.proofs.header.lawful_round.Goals as goal
+
+pub returns-then-round-lt1 : goal.returns-then-round-lt1
+returns-then-round-lt1 c = search round-low
+
+pub returns : goal.returns
+returns c = search round-high

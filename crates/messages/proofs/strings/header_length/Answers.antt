@@ -1,0 +1,7 @@
+use Rattle.messages.proofs.Writing.{header-length-is}
+use native.Mathlib.Omega.{arith}
+use borrow.Author.Rules.{rules}
+use Rattle.messages.proofs.strings.header_length.Goals as goal
+
+pub returns : goal.returns
+returns c = search header-length-is

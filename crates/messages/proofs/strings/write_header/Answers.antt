@@ -1,0 +1,10 @@
+use Rattle.messages.proofs.Writing.{author-room, header-written}
+use native.Mathlib.Omega.{arith}
+use borrow.Author.Rules.{rules}
+use Rattle.messages.proofs.strings.write_header.Goals as goal
+
+pub put_bytes-requires : goal.put_bytes-requires
+put_bytes-requires c = search author-room
+
+pub returns : goal.returns
+returns c = search header-written

@@ -1,0 +1,27 @@
+use Prim.Native.Nat.{◌-◌}
+use mathlib.Core.Path.{◌≡◌}
+use mathlib.Core.List.{map}
+use Rattle.messages.specs.Header.{payload_count, payload_of}
+use Rattle.messages.specs.Strings.{payload_item}
+use Rattle.messages.proofs.Writing.{Filling, filling-same, filling-done, payload-start, payload-end, payload-long, payload-next}
+use native.Mathlib.Omega.{arith}
+use borrow.Author.Rules.{rules}
+use Rattle.messages.proofs.strings.write_payload.Goals as goal
+
+pub loop-i-init : goal.loop-i-init
+loop-i-init c = search (rules, payload-start)
+
+pub slice_bounds-write_item-end : goal.slice_bounds-write_item-end
+slice_bounds-write_item-end c = search payload-end
+
+pub write_item-requires : goal.write_item-requires
+write_item-requires c = search (rules, payload-long)
+
+pub loop-i-preserved : goal.loop-i-preserved
+loop-i-preserved c = search (rules, payload-next)
+
+pub shape_of-out : goal.shape_of-out
+shape_of-out c = search filling-same
+
+pub returns : goal.returns
+returns c = search filling-done

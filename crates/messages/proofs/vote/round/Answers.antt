@@ -1,0 +1,8 @@
+use Rattle.messages.specs.Vote.{vote_round}
+use native.Mathlib.Omega.{arith}
+use borrow.Author.Rules.{rules}
+use Rattle.messages.proofs.vote.round.Goals as goal
+
+pub returns : goal.returns
+unfolding vote_round
+returns c = c.read_u64.ensures

@@ -1,0 +1,7 @@
+use native.Mathlib.Omega.{arith}
+use borrow.Author.Rules.{rules}
+use Rattle.room.proofs.Laws.{number_read}
+use Rattle.room.proofs.get.Goals as goal
+
+pub returns : goal.returns
+returns c = search number_read

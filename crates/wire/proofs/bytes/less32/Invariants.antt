@@ -1,0 +1,14 @@
+use native.Mathlib.Omega.{arith}
+use borrow.Author.Rules.{rules}
+use mathlib.Core.Path.{◌≡◌, refl, sym, ◌∙◌}
+use Prim.Native.Nat.{◌+◌, ◌-◌, ◌≤◌}
+use native.Mathlib.Nat.{add-zero}
+use Rattle.wire.specs.Bytes.{part, less}
+use Rattle.wire.proofs.Laws.{less-on, less-not, less_none}
+use Rattle.wire.proofs.bytes.less32.Given as goal
+
+abbrev pub invariant-loop-k : goal.invariant-loop-k
+invariant-loop-k l = (l.k ≤ 32) × (less (part l.a l.i 32) (part l.b l.j 32) ≡ less (part l.a (l.i + l.k) (32 - l.k)) (part l.b (l.j + l.k) (32 - l.k)))
+
+abbrev pub decreases-loop-k : goal.decreases-loop-k
+decreases-loop-k l = 32 - l.k

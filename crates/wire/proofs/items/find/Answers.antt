@@ -1,0 +1,24 @@
+use Prim.Native.Nat.{◌-◌}
+use Rattle.wire.specs.Items.{has_part}
+use Rattle.wire.proofs.Lists.{Seek, seek-start, seek-fits, seek-reach, seek_hit, seek-miss, seek-done}
+use native.Mathlib.Omega.{arith}
+use borrow.Author.Rules.{rules}
+use Rattle.wire.proofs.items.find.Goals as goal
+
+pub loop-i-init : goal.loop-i-init
+loop-i-init c = search seek-start
+
+pub item-requires : goal.item-requires
+item-requires c = search seek-fits
+
+pub has-requires : goal.has-requires
+has-requires c = search (rules, seek-reach)
+
+pub returns-then-has : goal.returns-then-has
+returns-then-has c = search seek_hit
+
+pub loop-i-preserved : goal.loop-i-preserved
+loop-i-preserved c = search seek-miss
+
+pub returns : goal.returns
+returns c = search seek-done

@@ -1,0 +1,14 @@
+use lib.Seq.{paste, paste-zero}
+use lib.ListN.{length, replicate, length-replicate, length-set}
+use Rattle.wire.proofs.Laws.{paste-fill, paste_all}
+use Prim.Native.Nat.{ℕ, ◌+◌, ◌-◌, ◌*◌, ◌≤◌, ◌<◌}
+use mathlib.Core.Path.{◌≡◌, refl, sym, ap, ◌∙◌}
+use native.Mathlib.Omega.{arith}
+use borrow.Author.Rules.{rules}
+use Rattle.wire.proofs.parts.clear_bytes.Given as goal
+
+abbrev pub invariant-loop-k : goal.invariant-loop-k
+invariant-loop-k l = (l.k ≤ l.n) × ((l.s ≡ paste l.initial.s l.at (replicate l.n 0) l.k) × (length l.s ≡ length l.initial.s))
+
+abbrev pub decreases-loop-k : goal.decreases-loop-k
+decreases-loop-k l = l.n - l.k
