@@ -264,13 +264,13 @@ module _ (ms c : List ℕ) (id_ok sig_ok batch_ok : ℕ) (b : Bool) (e : b ≡ v
 pub certificate-headed-by : (c h : List ℕ) → certificate_shape c ≡ true → h ≡ header_of c → header_shape h ≡ true
 certificate-headed-by c h s e = ap header_shape e ∙ certificate-headed c s
 
--- an answer's place among the variants is not that of `Done`
+-- an answer is not `Done`
 abbrev pub Refusal : Answer → Type 0
-Refusal a = OneOf (1 ∷ 2 ∷ 3 ∷ 4 ∷ 5 ∷ 6 ∷ 7 ∷ 8 ∷ []) (tag_of the_type a)
+Refusal a = (n : ℕ) → a ≡ Done n → ⊥
 
 refused : (a next : Answer) → Refusal a → a ≡ and_then a next
 unfolding and_then
-refused (Done n) next f = absurd (miss (1 ∷ 2 ∷ 3 ∷ 4 ∷ 5 ∷ 6 ∷ 7 ∷ 8 ∷ []) 0 tt f)
+refused (Done n) next f = absurd (f n refl)
 refused BadCommittee next f = refl
 refused BadShape next f = refl
 refused InvalidHeaderId next f = refl

@@ -1,5 +1,5 @@
 -- Rounds without a gap, one round at a time. Assumes nothing.
-use mathlib.Core.Path.{◌≡◌, refl, sym, ap, ◌∙◌}
+use mathlib.Core.Path.{◌≡◌, refl, sym, ap, subst, ◌∙◌}
 use mathlib.Core.Bool.{Bool, true, false, not}
 use mathlib.Core.List.{List}
 use Prim.Native.Nat.{ℕ, suc, ◌+◌, ◌-◌, ◌≤◌, ◌<◌}
@@ -7,13 +7,13 @@ use native.Mathlib.Omega.{arith}
 use Rattle.consensus.specs.Table.{Cert, is_empty, of_round}
 use Rattle.consensus.proofs.Hole.{hole_in}
 
+hole-at : (held : List Cert) (low n m u : ℕ) → m ≡ suc n → low + n ≡ u → hole_in m low held ≡ elim (is_empty (of_round u held)) [ true ↦ true | false ↦ hole_in n low held ]
+unfolding hole_in
+hole-at held low n m u e f = subst (λ (k : ℕ). hole_in m low held ≡ elim (is_empty (of_round k held)) [ true ↦ true | false ↦ hole_in n low held ]) f (rw (e, hole_in))
+
 hole-step : (held : List Cert) (low upper : ℕ) → low < upper
     → hole_in (upper - low) low held ≡ elim (is_empty (of_round (upper - 1) held)) [ true ↦ true | false ↦ hole_in (upper - 1 - low) low held ]
-unfolding hole_in
-hole-step held low upper h =
-    let e : upper - low ≡ suc (upper - 1 - low) = omega arith in
-    let f : low + (upper - 1 - low) ≡ upper - 1 = omega arith in
-    rw (e, hole_in) (rw f)
+hole-step held low upper h = hole-at held low (upper - 1 - low) (upper - low) (upper - 1) (omega arith) (omega arith)
 
 not-not : (b : Bool) → not (not b) ≡ b
 not-not true = refl

@@ -1,5 +1,5 @@
 -- The link test, one round at a time, and its first marks. Assumes nothing.
-use mathlib.Core.Path.{◌≡◌, refl, sym, ap, ◌∙◌}
+use mathlib.Core.Path.{◌≡◌, refl, sym, ap, subst, ◌∙◌}
 use mathlib.Core.Bool.{Bool, false}
 use mathlib.Core.List.{List, [], ◌∷◌, append-nil}
 use Prim.Native.Nat.{ℕ, zero, suc, ◌+◌, ◌-◌, ◌≤◌, ◌<◌}
@@ -26,13 +26,16 @@ linked-here held upper lower d marks b e f =
     let z : lower - lower ≡ 0 = omega arith in
     rw e (rw z (ap link f))
 
+linked-at : (held : List Cert) (n m u lower : ℕ) (d : List ℕ) (front : List Cert) → m ≡ suc n → lower + n ≡ u → is_empty (of_round u held) ≡ false
+    → linked m lower d front held ≡ linked n lower d (followed front (of_round u held)) held
+unfolding linked
+linked-at held n m u lower d front e f =
+    subst (λ (k : ℕ). is_empty (of_round k held) ≡ false → linked m lower d front held ≡ linked n lower d (followed front (of_round k held)) held) f
+    (λ t. rw (e, linked) (rw t))
+
 linked-step : (held : List Cert) (upper lower : ℕ) (d : List ℕ) (front : List Cert) → lower < upper → is_empty (of_round (upper - 1) held) ≡ false
     → linked (upper - lower) lower d front held ≡ linked (upper - 1 - lower) lower d (followed front (of_round (upper - 1) held)) held
-unfolding linked
-linked-step held upper lower d front h t =
-    let e : upper - lower ≡ suc (upper - 1 - lower) = omega arith in
-    let f : lower + (upper - 1 - lower) ≡ upper - 1 = omega arith in
-    rw (e, linked) (rw f (rw t (ap (λ (k : ℕ). linked (upper - 1 - lower) lower d (followed front (of_round k held)) held) f)))
+linked-step held upper lower d front h t = linked-at held (upper - 1 - lower) (upper - lower) (upper - 1) lower d front (omega arith) (omega arith) t
 
 module _ (upper lower : ℕ) (le : lower ≤ upper) (ne : upper ≡ lower → ⊥) where
   above : lower < upper

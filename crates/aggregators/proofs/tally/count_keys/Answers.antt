@@ -1,0 +1,23 @@
+use Prim.Native.Nat.{◌-◌}
+use Rattle.aggregators.proofs.Weights.{Weighing, weighing-start, weighing-fits, weighing-reach, weighing-key, weighing-next, weighing-done}
+use native.Mathlib.Omega.{arith}
+use borrow.Author.Rules.{rules}
+use Rattle.aggregators.proofs.tally.count_keys.Goals as goal
+
+pub loop-i-init : goal.loop-i-init
+loop-i-init c = search (rules, weighing-start)
+
+pub item-requires : goal.item-requires
+item-requires c = search weighing-fits
+
+pub key-requires : goal.key-requires
+key-requires c = search weighing-reach
+
+pub stake-stake-requires : goal.stake-stake-requires
+stake-stake-requires c = search weighing-key
+
+pub loop-i-preserved : goal.loop-i-preserved
+loop-i-preserved c = search weighing-next
+
+pub returns : goal.returns
+returns c = search weighing-done

@@ -1,0 +1,11 @@
+use Prim.Native.Nat.{◌-◌}
+use Rattle.aggregators.proofs.Weights.{Weighing, weighing-start, weighing-fits, weighing-reach, weighing-key, weighing-next, weighing-done}
+use native.Mathlib.Omega.{arith}
+use borrow.Author.Rules.{rules}
+use Rattle.aggregators.proofs.tally.count_keys.Given as goal
+
+abbrev pub invariant-loop-i : goal.invariant-loop-i
+invariant-loop-i l = Weighing l.members l.quorum l.size l.list l.at l.n l.i l.t
+
+abbrev pub decreases-loop-i : goal.decreases-loop-i
+decreases-loop-i l = l.n - l.i

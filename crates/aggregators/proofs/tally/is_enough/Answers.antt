@@ -1,0 +1,7 @@
+use Rattle.aggregators.proofs.Weights.{enough-is}
+use native.Mathlib.Omega.{arith}
+use borrow.Author.Rules.{rules}
+use Rattle.aggregators.proofs.tally.is_enough.Goals as goal
+
+pub returns : goal.returns
+returns c = search enough-is

@@ -1,0 +1,13 @@
+use Rattle.aggregators.proofs.Voting.{voters-long, voters-fit, votes-weight-is}
+use native.Mathlib.Omega.{arith}
+use borrow.Author.Rules.{rules}
+use Rattle.aggregators.proofs.votes.votes_weight.Goals as goal
+
+pub voter_count-requires : goal.voter_count-requires
+voter_count-requires c = search voters-long
+
+pub count_keys-t-requires : goal.count_keys-t-requires
+count_keys-t-requires c = search (rules, voters-fit)
+
+pub returns : goal.returns
+returns c = search votes-weight-is

@@ -1,0 +1,16 @@
+use Prim.Native.Nat.{◌-◌}
+use mathlib.Core.Path.{◌≡◌}
+use Rattle.wire.proofs.Lists.{Testing, testing-fits, testing-reach, testing-no, testing-yes, testing-done}
+use Rattle.messages.specs.Header.{payload_count}
+use Rattle.messages.proofs.Laws.{header-length}
+use Rattle.checks.specs.Header.{works_for}
+use Rattle.checks.proofs.Laws.{workers-start, workers-are}
+use native.Mathlib.Omega.{arith}
+use borrow.Author.Rules.{rules}
+use Rattle.checks.proofs.header.has_workers.Given as goal
+
+abbrev pub invariant-loop-i : goal.invariant-loop-i
+invariant-loop-i l = (l.n ≡ payload_count l.header) × Testing 36 (works_for l.member) l.header 1098 l.n l.i
+
+abbrev pub decreases-loop-i : goal.decreases-loop-i
+decreases-loop-i l = l.n - l.i

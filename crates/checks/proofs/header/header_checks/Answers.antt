@@ -1,0 +1,26 @@
+use Rattle.messages.proofs.Laws.{header-length}
+use Rattle.checks.proofs.Laws.{author-32, id_wrong, author-unknown, workers-unknown, signature-wrong, header-good}
+use native.Mathlib.Omega.{arith}
+use borrow.Author.Rules.{rules}
+use Rattle.checks.proofs.header.header_checks.Goals as goal
+
+pub returns-then-not-id_ok : goal.returns-then-not-id_ok
+returns-then-not-id_ok c = search id_wrong
+
+pub author-requires : goal.author-requires
+author-requires c = search header-length
+
+pub stake-requires : goal.stake-requires
+stake-requires c = search author-32
+
+pub returns-then-stake-eq0 : goal.returns-then-stake-eq0
+returns-then-stake-eq0 c = search author-unknown
+
+pub returns-then-not-workers_known : goal.returns-then-not-workers_known
+returns-then-not-workers_known c = search workers-unknown
+
+pub returns-then-not-sig_ok : goal.returns-then-not-sig_ok
+returns-then-not-sig_ok c = search signature-wrong
+
+pub returns : goal.returns
+returns c = search header-good

@@ -1,0 +1,12 @@
+use native.Mathlib.Omega.{arith}
+use borrow.Author.Rules.{rules}
+use Rattle.held.proofs.Laws.{lawful-shape}
+use Prim.Native.Nat.{◌-◌}
+use Rattle.dag.proofs.Piling.{Putting, putting-start, putting-done, putting-next, one-back}
+use Rattle.dag.proofs.pile.put_parents.Given as goal
+
+abbrev pub invariant-loop-k : goal.invariant-loop-k
+invariant-loop-k l = Putting l.state l.table l.x l.parents l.round l.m l.initial.pile l.h l.initial.marks l.pile l.top l.marks l.k
+
+abbrev pub decreases-loop-k : goal.decreases-loop-k
+decreases-loop-k l = l.m - l.k

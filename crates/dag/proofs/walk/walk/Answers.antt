@@ -1,0 +1,7 @@
+use native.Mathlib.Omega.{arith}
+use borrow.Author.Rules.{rules}
+use Rattle.dag.proofs.Going.{start-walked}
+use Rattle.dag.proofs.walk.walk.Goals as goal
+
+pub returns : goal.returns
+returns c = search start-walked

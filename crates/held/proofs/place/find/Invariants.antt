@@ -1,0 +1,16 @@
+use native.Mathlib.Omega.{arith}
+use borrow.Author.Rules.{rules}
+use Rattle.held.proofs.Laws.{place_found, place_none}
+use Prim.Native.Nat.{◌-◌}
+use mathlib.Core.Path.{◌≡◌}
+use Rattle.wire.proofs.Lists.{Seek, seek-start, seek-fits, seek-reach, seek_hit, seek-miss, seek-done}
+use Rattle.table.specs.Rows.{count_of, has_round_part}
+use Rattle.table.proofs.Laws.{is-long, rows_fit}
+use Rattle.held.proofs.Laws.{digest-fits}
+use Rattle.held.proofs.place.find.Given as goal
+
+abbrev pub invariant-loop-i : goal.invariant-loop-i
+invariant-loop-i l = (l.n ≡ count_of l.table) × Seek 1062 (has_round_part l.round 6 l.digest) l.table 8 l.n l.i
+
+abbrev pub decreases-loop-i : goal.decreases-loop-i
+decreases-loop-i l = l.n - l.i

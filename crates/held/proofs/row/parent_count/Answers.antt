@@ -1,0 +1,12 @@
+use native.Mathlib.Omega.{arith}
+use borrow.Author.Rules.{rules}
+use Rattle.held.specs.Rows.{parent_count}
+use mathlib.Core.Path.{refl}
+use Rattle.held.proofs.row.parent_count.Goals as goal
+
+pub overflow_cast-result : goal.overflow_cast-result
+overflow_cast-result c = omega (arith, c.shared_slice_known-1.given 5)
+
+pub returns : goal.returns
+unfolding parent_count
+returns c = refl

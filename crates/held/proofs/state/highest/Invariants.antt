@@ -1,0 +1,11 @@
+use native.Mathlib.Omega.{arith}
+use borrow.Author.Rules.{rules}
+use Rattle.held.proofs.Laws.{Topping, topping-start, topping-done, topping-fits, topping-next}
+use Prim.Native.Nat.{◌-◌}
+use Rattle.held.proofs.state.highest.Given as goal
+
+abbrev pub invariant-loop-o : goal.invariant-loop-o
+invariant-loop-o l = Topping l.state l.n l.top l.o
+
+abbrev pub decreases-loop-o : goal.decreases-loop-o
+decreases-loop-o l = l.n - l.o

@@ -1,0 +1,13 @@
+use native.Mathlib.Omega.{arith}
+use borrow.Author.Rules.{rules}
+use Prim.Native.Nat.{◌-◌}
+use Rattle.leaders.specs.Setup.{agreed_of}
+use Rattle.leaders.proofs.Agreeing.{held-long}
+use Rattle.leaders.proofs.Scanning.{Rising, rising-start, rising-done, rising-below, rising-next}
+use Rattle.leaders.proofs.candidates.next_round.Given as goal
+
+abbrev pub invariant-loop-i : goal.invariant-loop-i
+invariant-loop-i l = Rising (agreed_of l.setup) l.table l.low l.r l.count l.found l.i
+
+abbrev pub decreases-loop-i : goal.decreases-loop-i
+decreases-loop-i l = l.count - l.i

@@ -1,0 +1,12 @@
+use native.Mathlib.Omega.{arith}
+use borrow.Author.Rules.{rules}
+use Prim.Native.Nat.{◌-◌}
+use Rattle.consensus.specs.Leaders.{has_digest}
+use Rattle.leaders.proofs.Linking.{Looking, has-start, has-none, looking-below, has-hit, looking-miss}
+use Rattle.leaders.proofs.link.has_digest.Given as goal
+
+abbrev pub invariant-loop-i : goal.invariant-loop-i
+invariant-loop-i l = Looking (has_digest l.digest) l.table l.marks l.round l.count l.i
+
+abbrev pub decreases-loop-i : goal.decreases-loop-i
+decreases-loop-i l = l.count - l.i

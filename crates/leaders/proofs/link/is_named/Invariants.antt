@@ -1,0 +1,12 @@
+use native.Mathlib.Omega.{arith}
+use borrow.Author.Rules.{rules}
+use Prim.Native.Nat.{◌-◌}
+use Rattle.consensus.specs.Leaders.{named}
+use Rattle.leaders.proofs.Linking.{Looking, named_start, named_none, looking-below, named-hit, looking-miss}
+use Rattle.leaders.proofs.link.is_named.Given as goal
+
+abbrev pub invariant-loop-i : goal.invariant-loop-i
+invariant-loop-i l = Looking (named l.digest) l.table l.marks l.round l.count l.i
+
+abbrev pub decreases-loop-i : goal.decreases-loop-i
+decreases-loop-i l = l.count - l.i

@@ -1,0 +1,13 @@
+use native.Mathlib.Omega.{arith}
+use borrow.Author.Rules.{rules}
+use Rattle.held.proofs.Laws.{lawful-shape}
+use Rattle.leaders.proofs.Agreeing.{setup-long}
+use Rattle.leaders.proofs.Joining.{Joining, joining-start, joining-last, joining-done, joining-two, joining-falls, joining-place, joining-below, joining-whole, joining-room, joining-pass, joining-take}
+use Rattle.leaders.proofs.Joining.{joining-low, joining-two-below}
+use Rattle.leaders.proofs.order.order_leaders.Given as goal
+
+abbrev pub invariant-loop-opener : goal.invariant-loop-opener
+invariant-loop-opener l = Joining l.setup l.state l.table l.opener l.n l.low l.first l.initial.rounds l.marks l.rounds l.last l.k l.r
+
+abbrev pub decreases-loop-opener : goal.decreases-loop-opener
+decreases-loop-opener l = l.r

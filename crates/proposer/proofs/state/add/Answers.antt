@@ -1,0 +1,7 @@
+use Rattle.proposer.proofs.Values.{add_is}
+use native.Mathlib.Omega.{arith}
+use borrow.Author.Rules.{rules}
+use Rattle.proposer.proofs.state.add.Goals as goal
+
+pub returns : goal.returns
+returns c = search add_is

@@ -1,0 +1,8 @@
+use Rattle.proposer.specs.State.{emptied}
+use native.Mathlib.Omega.{arith}
+use borrow.Author.Rules.{rules}
+use Rattle.proposer.proofs.state.empty.Goals as goal
+
+pub returns : goal.returns
+unfolding emptied
+returns c = search rules

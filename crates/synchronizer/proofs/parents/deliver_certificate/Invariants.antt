@@ -1,0 +1,18 @@
+use Prim.Native.Nat.{◌-◌}
+use mathlib.Core.Path.{◌≡◌}
+use Rattle.table.specs.Rows.{rows_of}
+use Rattle.genesis.specs.Genesis.{records_of}
+use Rattle.messages.specs.Header.{parent_count}
+use Rattle.messages.proofs.Laws.{header-length}
+use Rattle.wire.proofs.Lists.{Testing, testing-fits, testing-item}
+use Rattle.synchronizer.specs.Parents.{has}
+use Rattle.synchronizer.proofs.Laws.{deliver-start, deliver-no, deliver-yes, deliver-done}
+use native.Mathlib.Omega.{arith}
+use borrow.Author.Rules.{rules}
+use Rattle.synchronizer.proofs.parents.deliver_certificate.Given as goal
+
+abbrev pub invariant-loop-i : goal.invariant-loop-i
+invariant-loop-i l = (l.n ≡ parent_count l.header) × Testing 32 (has (records_of l.genesis) (rows_of 68 l.known)) l.header 74 l.n l.i
+
+abbrev pub decreases-loop-i : goal.decreases-loop-i
+decreases-loop-i l = l.n - l.i

@@ -1,0 +1,20 @@
+use Rattle.table.proofs.Laws.{found-row-fits}
+use Rattle.synchronizer.proofs.Laws.{genesis-fits, parent-genesis, parent-known, parent-none}
+use native.Mathlib.Omega.{arith}
+use borrow.Author.Rules.{rules}
+use Rattle.synchronizer.proofs.parents.parent.Goals as goal
+
+pub item-requires : goal.item-requires
+item-requires c = search genesis-fits
+
+pub returns-in-At : goal.returns-in-At
+returns-in-At c = search parent-genesis
+
+pub row-requires : goal.row-requires
+row-requires c = search found-row-fits
+
+pub returns-in-At-find_part : goal.returns-in-At-find_part
+returns-in-At-find_part c = search parent-known
+
+pub returns : goal.returns
+returns c = search parent-none

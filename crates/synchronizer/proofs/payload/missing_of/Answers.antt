@@ -1,0 +1,31 @@
+use Prim.Native.Nat.{◌-◌}
+use mathlib.Core.Path.{◌≡◌}
+use Rattle.messages.specs.Header.{payload_count}
+use Rattle.messages.proofs.Laws.{header-length}
+use Rattle.synchronizer.specs.Payload.{pairs_of, unpaired}
+use Rattle.synchronizer.proofs.Picking.{Picking, picking-fits, picking-item, picking-room, picking-next}
+use Rattle.synchronizer.proofs.Laws.{batches-start, batches-done}
+use native.Mathlib.Omega.{arith}
+use borrow.Author.Rules.{rules}
+use Rattle.synchronizer.proofs.payload.missing_of.Goals as goal
+
+pub payload_count-n-requires : goal.payload_count-n-requires
+payload_count-n-requires c = search header-length
+
+pub loop-i-init : goal.loop-i-init
+loop-i-init c = search (rules, batches-start)
+
+pub payload-item-requires : goal.payload-item-requires
+payload-item-requires c = search picking-fits
+
+pub is_unpaired-missing-requires : goal.is_unpaired-missing-requires
+is_unpaired-missing-requires c = search (rules, picking-item)
+
+pub put_if-m-requires : goal.put_if-m-requires
+put_if-m-requires c = search (rules, picking-item, picking-room)
+
+pub loop-i-preserved : goal.loop-i-preserved
+loop-i-preserved c = search (rules, picking-next)
+
+pub returns : goal.returns
+returns c = search batches-done

@@ -1,0 +1,20 @@
+use native.Mathlib.Omega.{arith}
+use borrow.Author.Rules.{rules}
+use Rattle.update.proofs.Laws.{Entering, entering-start, entering-done, entering-number, entering-place, entering-room, entering-next}
+use Prim.Native.Nat.{◌-◌}
+use Rattle.update.proofs.entries.put_list.Goals as goal
+
+pub loop-i-init : goal.loop-i-init
+loop-i-init c = search entering-start
+
+pub get-requires : goal.get-requires
+get-requires c = search entering-number
+
+pub put_entry-requires : goal.put_entry-requires
+put_entry-requires c = search (rules, entering-place, entering-room)
+
+pub loop-i-preserved : goal.loop-i-preserved
+loop-i-preserved c = search entering-next
+
+pub returns : goal.returns
+returns c = search entering-done

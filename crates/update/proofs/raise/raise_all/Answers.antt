@@ -1,0 +1,20 @@
+use native.Mathlib.Omega.{arith}
+use borrow.Author.Rules.{rules}
+use Rattle.update.proofs.Laws.{Raising, raising-start, raising-done, raising-number, raising-place, raising-next}
+use Prim.Native.Nat.{◌-◌}
+use Rattle.update.proofs.raise.raise_all.Goals as goal
+
+pub loop-i-init : goal.loop-i-init
+loop-i-init c = search raising-start
+
+pub get-requires : goal.get-requires
+get-requires c = search raising-number
+
+pub raise_one-requires : goal.raise_one-requires
+raise_one-requires c = search (rules, raising-place)
+
+pub loop-i-preserved : goal.loop-i-preserved
+loop-i-preserved c = search raising-next
+
+pub returns : goal.returns
+returns c = search raising-done
