@@ -72,14 +72,14 @@ module _ (depth : ℕ) where
   unfolding list_one
   heights-step s P x lt H = heights-one s.last P x lt H
 
-  pub list_all : (w : List Cert) (s : State) (P : Cert → Type 0) → ((c : Cert) → In c w → c.origin < length s.last) → Ok s P
+  pub Ok-list_all : (w : List Cert) (s : State) (P : Cert → Type 0) → ((c : Cert) → In c w → c.origin < length s.last) → Ok s P
       → Ok (list_all depth w s) (λ d. In d w ⊎ P d)
   unfolding list_all
-  list_all [] s P m k = ok-map s P (λ d. In d [] ⊎ P d) (λ c q. ⊎_elim (λ z. absurd z) (λ p. p) q) k
-  list_all (c ∷ w) s P m k =
+  Ok-list_all [] s P m k = ok-map s P (λ d. In d [] ⊎ P d) (λ c q. ⊎_elim (λ z. absurd z) (λ p. p) q) k
+  Ok-list_all (c ∷ w) s P m k =
       let s' = list_one depth c s in
       let one = list-one s P c (m c (inl refl)) k in
-      let more = list_all w s' (λ d. (d ≡ c) ⊎ P d) (λ d h. size-one depth c s d.origin (m d (inr h))) one in
+      let more = Ok-list_all w s' (λ d. (d ≡ c) ⊎ P d) (λ d h. size-one depth c s d.origin (m d (inr h))) one in
       ok-map (list_all depth w s') (λ d. In d w ⊎ ((d ≡ c) ⊎ P d)) (λ d. In d (c ∷ w) ⊎ P d)
       (λ d q. ⊎_elim (λ h. ⊎_elim (λ z. inr (inl z)) (λ i. inl i) h) (λ p. inr (inr p)) q)
       more

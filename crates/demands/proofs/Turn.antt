@@ -13,7 +13,7 @@ use Rattle.demands.specs.Demand.{Chain, Gone, Heights, Lists, Turns, down, self,
 use Rattle.consensus.proofs.Listing.{Within, all-size, highest-ge, list_back, within}
 use Rattle.consensus.proofs.Lists.{app-in, in_app, in_left, in_right, once-app}
 use Rattle.consensus.proofs.Climb.{Climb, step-up, climb-stays}
-use Rattle.demands.proofs.Between.{Ok, heights-all, heights-map, list_all, ok-map}
+use Rattle.demands.proofs.Between.{Ok, Ok-list_all, heights-all, heights-map, ok-map}
 use Rattle.demands.proofs.Cleared.{all-steps, gone-map}
 use Rattle.demands.proofs.Due.{due}
 
@@ -57,7 +57,7 @@ module _ (depth : ℕ) where
         lists = D;
         member = mem;
         within = within depth w s l.round (λ c q. (mem c q, chain-low s l c (D.only c q).chain)) h;
-        ok = list_all depth w s P mem k;
+        ok = Ok-list_all depth w s P mem k;
       }
 
   pub record Committed (s : State) (P : Cert → Type 0) (v : Served) : Type 0 where

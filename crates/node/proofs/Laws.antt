@@ -39,17 +39,17 @@ module _ (r : ℕ) (a : synchronizer-answer.Answer) (e : r ≡ synchronizer.code
   learn known new known' w = record { answer = e ∙ ap synchronizer.code_of w.answer; table = w.table }
 
 pub proposed : (r : ℕ) (x : proposer-answer.Answer) (a : After) (state header : List ℕ) → r ≡ proposer.code_of x → Left a x state header → Proposed a r state header
-proposed r x a state header e w = record { answer = e ∙ ap proposer.code_of w.answer; state-is = w.state; header_is = w.header }
+proposed r x a state header e w = record { answer = e ∙ ap proposer.code_of w.answer; state_is = w.state; header_is = w.header }
 
 module _ (r : ℕ) (a : aggregators-answer.Answer) (e : r ≡ aggregators.code_of a) where
   pub count-vote : (members voters author voters' : List ℕ) → CountsVote members voters author a voters' → CountVote members voters author r voters'
-  count-vote members voters author voters' w = record { answer = e ∙ ap aggregators.code_of w.answer; voters-are = w.voters }
+  count-vote members voters author voters' w = record { answer = e ∙ ap aggregators.code_of w.answer; voters_are = w.voters }
 
   pub count-certificate : (members counts : List ℕ) (round : ℕ) (origin digest out counts' out' : List ℕ) → CountsCertificate members counts round origin digest out a counts' out' → CountCertificate members counts round origin digest out r counts' out'
   count-certificate members counts round origin digest out counts' out' w =
-      record { answer = e ∙ ap aggregators.code_of w.answer; counts-are = w.counts; buffer = w.buffer }
+      record { answer = e ∙ ap aggregators.code_of w.answer; counts_are = w.counts; buffer = w.buffer }
 
 module _ (r : ℕ) (a : ordering-answer.Answer) (e : r ≡ ordering.code_of a) where
   pub ordering-start : (setup genesis state table state' table' : List ℕ) → Started setup genesis state table a state' table' → OrderingStart setup genesis state table r state' table'
   ordering-start setup genesis state table state' table' w =
-      record { answer = e ∙ ap ordering.code_of w.answer; state-is = w.state; table_is = w.table }
+      record { answer = e ∙ ap ordering.code_of w.answer; state_is = w.state; table_is = w.table }

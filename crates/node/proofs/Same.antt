@@ -68,17 +68,17 @@ module _ (r s : ℕ) (members : List ℕ) where
 
 -- ---- the proposer: answer, state and header, of `tundrimela_proposer_start` and of `tundrimela_proposer_event`
 pub same-proposed : (a : After) (r s : ℕ) (t u g h : List ℕ) → Proposed a r t g → Proposed a s u h → (r ≡ s) × ((t ≡ u) × (g ≡ h))
-same-proposed a r s t u g h p q = (p.answer ∙ sym q.answer, (p.state-is ∙ sym q.state-is, p.header_is ∙ sym q.header_is))
+same-proposed a r s t u g h p q = (p.answer ∙ sym q.answer, (p.state_is ∙ sym q.state_is, p.header_is ∙ sym q.header_is))
 
 -- ---- aggregators
 pub same-count-vote : (members voters author : List ℕ) (r s : ℕ) (u v : List ℕ) → CountVote members voters author r u → CountVote members voters author s v → (r ≡ s) × (u ≡ v)
-same-count-vote members voters author r s u v p q = (p.answer ∙ sym q.answer, p.voters-are ∙ sym q.voters-are)
+same-count-vote members voters author r s u v p q = (p.answer ∙ sym q.answer, p.voters_are ∙ sym q.voters_are)
 
 pub same-count-certificate : (members counts : List ℕ) (round : ℕ) (origin digest out : List ℕ) (r s : ℕ) (t u v w : List ℕ) → CountCertificate members counts round origin digest out r t v → CountCertificate members counts round origin digest out s u w → (r ≡ s) × ((t ≡ u) × (v ≡ w))
 same-count-certificate members counts round origin digest out r s t u v w p q =
-    (p.answer ∙ sym q.answer, (p.counts-are ∙ sym q.counts-are, p.buffer ∙ sym q.buffer))
+    (p.answer ∙ sym q.answer, (p.counts_are ∙ sym q.counts_are, p.buffer ∙ sym q.buffer))
 
 -- ---- ordering
 pub same-ordering-start : (setup genesis state table : List ℕ) (r s : ℕ) (t u v w : List ℕ) → OrderingStart setup genesis state table r t v → OrderingStart setup genesis state table s u w → (r ≡ s) × ((t ≡ u) × (v ≡ w))
 same-ordering-start setup genesis state table r s t u v w p q =
-    (p.answer ∙ sym q.answer, (p.state-is ∙ sym q.state-is, p.table_is ∙ sym q.table_is))
+    (p.answer ∙ sym q.answer, (p.state_is ∙ sym q.state_is, p.table_is ∙ sym q.table_is))

@@ -31,11 +31,11 @@ pub record VoteString (id : List ℕ) (round : ℕ) (origin out : List ℕ) (at 
 -- ---- aggregators
 pub record CountVote (members voters author : List ℕ) (r : ℕ) (voters' : List ℕ) : Type 0 where
   pub answer : r ≡ aggregators.code_of (count_vote members voters author).answer
-  pub voters-are : voters' ≡ (count_vote members voters author).voters
+  pub voters_are : voters' ≡ (count_vote members voters author).voters
 
 pub record CountCertificate (members counts : List ℕ) (round : ℕ) (origin digest out : List ℕ) (r : ℕ) (counts' out' : List ℕ) : Type 0 where
   pub answer : r ≡ aggregators.code_of (count_certificate members counts round origin digest out).answer
-  pub counts-are : counts' ≡ (count_certificate members counts round origin digest out).counts
+  pub counts_are : counts' ≡ (count_certificate members counts round origin digest out).counts
   pub buffer : out' ≡ (count_certificate members counts round origin digest out).out
 
 -- ---- synchronizer
@@ -54,11 +54,11 @@ pub record Learn (known new : List ℕ) (r : ℕ) (known' : List ℕ) : Type 0 w
 -- ---- proposer: of what its start or an event is to leave
 pub record Proposed (a : After) (r : ℕ) (state header : List ℕ) : Type 0 where
   pub answer : r ≡ proposer.code_of a.answer
-  pub state-is : state ≡ a.state
+  pub state_is : state ≡ a.state
   pub header_is : header ≡ a.header
 
 -- ---- ordering
 pub record OrderingStart (setup genesis state table : List ℕ) (r : ℕ) (state' table' : List ℕ) : Type 0 where
   pub answer : r ≡ ordering.code_of (start_answer setup genesis state table)
-  pub state-is : state' ≡ when_done (start_answer setup genesis state table) (fresh_state (length (members_of (drop 8 setup)))) state
+  pub state_is : state' ≡ when_done (start_answer setup genesis state table) (fresh_state (length (members_of (drop 8 setup)))) state
   pub table_is : table' ≡ when_done (start_answer setup genesis state table) (fresh_table (length table) (digests_of genesis)) table

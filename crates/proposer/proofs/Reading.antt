@@ -187,8 +187,8 @@ module _ (author : List ℕ) (round : ℕ) (ps qs : List (List ℕ)) (la : lengt
         round = read-round;
         parents = rw count-ps read-parents;
         payload = rw count-qs read-payload;
-        past-parents = past-ps;
-        past-payload = past-qs;
+        past_parents = past-ps;
+        past_payload = past-qs;
       }
 
 -- ---- the header of a state

@@ -26,5 +26,5 @@ pub record Says (h by : List ℕ) (r : ℕ) (ps qs : List (List ℕ)) : Type 0 w
   pub round : word (part h 64 8) ≡ r
   pub parents : items 32 h 74 (get_or h 72 0) ≡ ps
   pub payload : items 36 h 1098 (get_or h 73 0) ≡ qs
-  pub past-parents : part h (74 + length ps * 32) (1024 - length ps * 32) ≡ zeros (1024 - length ps * 32)
-  pub past-payload : part h (1098 + length qs * 36) (2304 - length qs * 36) ≡ zeros (2304 - length qs * 36)
+  pub past_parents : part h (74 + length ps * 32) (1024 - length ps * 32) ≡ zeros (1024 - length ps * 32)
+  pub past_payload : part h (1098 + length qs * 36) (2304 - length qs * 36) ≡ zeros (2304 - length qs * 36)

@@ -1,0 +1,7 @@
+use native.Mathlib.Omega.{arith}
+use borrow.Author.Rules.{rules}
+use Rattle.accept.proofs.Committing.{all-zero}
+use Rattle.accept.proofs.act.zero.Goals as goal
+
+pub returns : goal.returns
+returns c = search all-zero

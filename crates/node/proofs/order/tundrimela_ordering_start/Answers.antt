@@ -1,0 +1,11 @@
+use Rattle.node.proofs.Laws.{ordering-start}
+use Rattle.ordering.proofs.Beginning.{start_small}
+use native.Mathlib.Omega.{arith}
+use borrow.Author.Rules.{rules}
+use Rattle.node.proofs.order.tundrimela_ordering_start.Goals as goal
+
+pub code-requires : goal.code-requires
+code-requires c = search start_small
+
+pub returns : goal.returns
+returns c = search ordering-start

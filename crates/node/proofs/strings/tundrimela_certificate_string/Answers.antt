@@ -1,0 +1,7 @@
+use Rattle.node.proofs.Laws.{vote-string}
+use native.Mathlib.Omega.{arith}
+use borrow.Author.Rules.{rules}
+use Rattle.node.proofs.strings.tundrimela_certificate_string.Goals as goal
+
+pub returns : goal.returns
+returns c = search vote-string

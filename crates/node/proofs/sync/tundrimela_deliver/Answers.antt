@@ -1,0 +1,6 @@
+use native.Mathlib.Omega.{arith}
+use borrow.Author.Rules.{rules}
+use Rattle.node.proofs.sync.tundrimela_deliver.Goals as goal
+
+pub returns : goal.returns
+returns c = cc
