@@ -1,11 +1,11 @@
 -- The state's bytes are those of its rounds. Assumes nothing.
 use mathlib.Core.Path.{◌≡◌, refl, sym, ap, ◌∙◌}
 use mathlib.Core.List.{List, [], ◌∷◌, ◌++◌, map, append-nil}
-use Prim.Native.Nat.{ℕ, zero, suc, ◌+◌, ◌-◌, ◌*◌, ◌/◌, ◌%◌, ◌≤◌, ◌<◌}
+use Prim.Native.Nat.{ℕ, zero, suc, ◌+◌, ◌*◌, ◌/◌, ◌%◌, ◌≤◌, ◌<◌}
 use native.Mathlib.Omega.{arith}
 use lib.ListN.{length, get_or, take, drop, length-drop, drop_of_length-le}
 use lib.Seq.{length-take-le}
-use Rattle.wire.specs.Bytes.{part, word, bytes}
+use Rattle.wire.specs.Bytes.{word, bytes}
 use Rattle.wire.specs.Items.{chunks, items, flat}
 use Rattle.wire.proofs.Lists.{flat-chunks}
 use Rattle.room.specs.Numbers.{rounds_of, values_of}

@@ -1,6 +1,5 @@
 -- The leaders found, and their commit. Assumes nothing.
 use mathlib.Core.Path.{◌≡◌, refl, sym, ap, ◌∙◌, subst}
-use mathlib.Core.Bool.{Bool, true, false}
 use mathlib.Core.List.{List, [], ◌∷◌, ◌++◌, map, reverse, reverse-append, append-nil}
 use mathlib.Core.Logic.{◌⊎◌, inl, inr}
 use Prim.Native.Nat.{ℕ, zero, suc, ◌+◌, ◌-◌, ◌*◌, ◌/◌, ◌≤◌, ◌<◌}
@@ -17,14 +16,13 @@ use Rattle.consensus.proofs.Size.{serve-fits}
 use Rattle.table.specs.Rows.{count_of, places}
 use Rattle.room.specs.Numbers.{rounds_of}
 use Rattle.room.proofs.Laws.{length-rounds}
-use Rattle.config.specs.Committee.{valid_setup, depth_of, leader_place}
+use Rattle.config.specs.Committee.{depth_of, leader_place}
 use Rattle.consensus.specs.Among.{In}
 use Rattle.consensus.specs.Table.{Cert, cert_at, none, pair_place, highest}
 use Rattle.consensus.specs.Leaders.{Agreed, Decision, decide, quiet, missing, opens}
-use Rattle.consensus.proofs.Climb.{Climb, level, step-up}
-use Rattle.consensus.proofs.Leading.{pair-most}
+use Rattle.consensus.proofs.Climb.{Climb, step-up}
 use Rattle.consensus.proofs.Settling.{opens-rise, opening}
-use Rattle.held.specs.Rows.{held_of, held_shape, lasts_of, state_of}
+use Rattle.held.specs.Rows.{held_of, lasts_of, state_of}
 use Rattle.held.proofs.Laws.{length-held, length-lasts, lawful, origin-below}
 use Rattle.leaders.specs.Setup.{agreed_of, kind_of}
 use Rattle.leaders.specs.declared.decide.Decision.{Decision as Kind}

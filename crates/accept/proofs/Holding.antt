@@ -1,13 +1,13 @@
 -- A certificate put in, and what follows. Assumes nothing.
-use mathlib.Core.Path.{◌≡◌, refl, sym, ap, ◌∙◌, subst}
-use mathlib.Core.Bool.{Bool, true, false, ◌||◌}
-use mathlib.Core.List.{List, [], ◌∷◌}
+use mathlib.Core.Path.{◌≡◌, sym, ap, ◌∙◌, subst}
+use mathlib.Core.Bool.{true, ◌||◌}
+use mathlib.Core.List.{List}
 use Prim.Native.Nat.{ℕ, ◌+◌, ◌-◌, ◌*◌, ◌/◌, ◌^◌, ◌≤◌, ◌<◌}
 use native.Mathlib.Omega.{arith}
 use lib.Dec.{ltb}
 use lib.ListN.{length, drop, replicate, length-drop}
 use Rattle.wire.specs.Bytes.{splice}
-use Rattle.table.specs.Rows.{count_of, places, shaped}
+use Rattle.table.specs.Rows.{count_of, places}
 use Rattle.table.proofs.Laws.{is-table, is-long, few-rows}
 use Rattle.config.specs.Committee.{valid_setup}
 use Rattle.config.proofs.Laws.{valid, valid-setup}

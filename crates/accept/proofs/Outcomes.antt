@@ -1,19 +1,18 @@
 -- What the ordering's definitions say of each course. Assumes nothing.
 use mathlib.Core.Path.{◌≡◌, refl, sym, ap, ◌∙◌, subst}
 use mathlib.Core.Bool.{Bool, true, false, not, ◌&&◌, ◌||◌}
-use mathlib.Core.List.{List, [], ◌∷◌, ◌++◌}
-use Prim.Native.Nat.{ℕ, zero, suc, ◌≤◌, ◌<◌}
+use mathlib.Core.List.{List, [], ◌∷◌}
+use Prim.Native.Nat.{ℕ, ◌≤◌}
 use native.Mathlib.Omega.{arith}
 use lib.Dec.{eqb, ltb}
 use lib.ListN.{length, length-append}
 use Rattle.wire.specs.Bytes.{alike}
-use Rattle.consensus.specs.Among.{In}
 use Rattle.consensus.specs.Candidates.{Falling}
-use Rattle.consensus.specs.Table.{Cert, State, clash, holds_pair, same_pair, insert, highest}
+use Rattle.consensus.specs.Table.{Cert, State, clash, holds_pair, same_pair, highest}
 use Rattle.consensus.specs.Leaders.{Agreed, Decision, decide, quiet, missing, opens}
 use Rattle.consensus.specs.Walk.{list_under}
 use Rattle.consensus.specs.Listing.{list_all, serve}
-use Rattle.consensus.specs.Order.{Called, accept, listed, put, refuse}
+use Rattle.consensus.specs.Order.{accept, listed, put, refuse}
 use Rattle.consensus.proofs.Climb.{Climb, step-up}
 use Rattle.consensus.proofs.ClearOnce.{under_some}
 use Rattle.consensus.proofs.Find.{find-some}

@@ -1,14 +1,14 @@
 -- Which refusal, or what is to be done, step by step. Assumes nothing.
-use mathlib.Core.Path.{◌≡◌, refl, sym, ap, ◌∙◌}
-use mathlib.Core.Bool.{Bool, true, false, not, ◌&&◌, ◌||◌}
-use mathlib.Core.List.{List, [], ◌∷◌}
+use mathlib.Core.Path.{◌≡◌, sym, ap, ◌∙◌}
+use mathlib.Core.Bool.{Bool, true, false, not, ◌||◌}
+use mathlib.Core.List.{List}
 use Prim.Native.Nat.{ℕ, ◌<◌, ◌≤◌}
 use native.Mathlib.Omega.{arith}
 use borrow.Author.Tests.{lt-ltb, le-ltb, not-true, not-false}
 use lib.Dec.{ltb}
 use lib.ListN.{length}
 use Rattle.table.specs.Rows.{count_of, places}
-use Rattle.consensus.specs.Table.{Cert, State, clash, holds_pair, pair_place}
+use Rattle.consensus.specs.Table.{Cert, clash, holds_pair, pair_place}
 use Rattle.consensus.specs.Leaders.{Agreed, decide}
 use Rattle.held.specs.Rows.{held_of, lasts_of, state_of}
 use Rattle.held.proofs.Laws.{length-held}
@@ -17,7 +17,7 @@ use Rattle.leaders.specs.Setup.{kind_of}
 use Rattle.leaders.specs.declared.decide.Decision.{Decision}
 use Rattle.accept.specs.Course.{course_of, course_for}
 use Rattle.accept.specs.declared.settle.Course.{Course}
-use Rattle.accept.specs.declared.settle.Course.TheVariants.{Clash, Full, Gap, Hold, Commit}
+use Rattle.accept.specs.declared.settle.Course.TheVariants.{Clash, Full}
 
 -- ---- a place for it
 

@@ -1,5 +1,5 @@
 -- The tests of a call's shape, one after the other. Assumes nothing.
-use mathlib.Core.Path.{◌≡◌, refl, sym, ap, ◌∙◌}
+use mathlib.Core.Path.{◌≡◌, sym, ◌∙◌}
 use mathlib.Core.Bool.{Bool, true, false, not, ◌&&◌}
 use mathlib.Core.List.{List}
 use Prim.Native.Nat.{ℕ, ◌-◌, ◌*◌, ◌/◌, ◌%◌, ◌≤◌, ◌<◌}
@@ -8,7 +8,7 @@ use borrow.Author.Tests.{eq-eqb, ne_eqb, le-leb, lt-leb, eqb-true, leb-true, not
 use lib.Dec.{eqb, leb}
 use lib.ListN.{length}
 use Rattle.wire.specs.Items.{items, keys, ascends}
-use Rattle.table.specs.Rows.{places, shaped}
+use Rattle.table.specs.Rows.{places}
 use Rattle.table.proofs.Laws.{is-long}
 use Rattle.config.proofs.Laws.{both}
 use Rattle.held.specs.Rows.{held_shape}

@@ -1,17 +1,17 @@
 -- A call in the domain: each course and what it leaves. Assumes nothing.
 use mathlib.Core.Path.{◌≡◌, refl, sym, ap, ◌∙◌, subst}
 use mathlib.Core.Bool.{Bool, true, false, ◌||◌}
-use mathlib.Core.List.{List, [], ◌∷◌}
-use Prim.Native.Nat.{ℕ, zero, suc, ◌+◌, ◌-◌, ◌*◌, ◌/◌, ◌^◌, ◌≤◌, ◌<◌}
+use mathlib.Core.List.{List, []}
+use Prim.Native.Nat.{ℕ, ◌-◌, ◌/◌, ◌^◌, ◌≤◌, ◌<◌}
 use native.Mathlib.Omega.{arith}
-use borrow.Author.Tests.{ne_eqb, lt-ltb, le-ltb}
+use borrow.Author.Tests.{ne_eqb, lt-ltb}
 use lib.Dec.{eqb, ltb}
 use lib.ListN.{length, get_or}
 use Rattle.wire.specs.Bytes.{splice}
 use Rattle.table.specs.Rows.{count_of, places}
 use Rattle.sweep.specs.Kept.{kept}
 use Rattle.config.specs.Committee.{depth_of}
-use Rattle.consensus.specs.Candidates.{Falling, edition1}
+use Rattle.consensus.specs.Candidates.{Falling}
 use Rattle.consensus.specs.Table.{Cert, State, insert, pair_place, highest}
 use Rattle.consensus.specs.Leaders.{Agreed, decide, opens}
 use Rattle.consensus.specs.Listing.{serve}
@@ -26,7 +26,7 @@ use Rattle.leaders.specs.Setup.{agreed_of, kind_of}
 use Rattle.leaders.proofs.Agreeing.{agreed-many, agreed-edition}
 use Rattle.ordering.specs.Answers.{when_done}
 use Rattle.ordering.specs.declared.answers.Answer.{Answer}
-use Rattle.ordering.specs.declared.answers.Answer.TheVariants.{Done, BadCommittee, BadShape, UnknownAuthority, NoRoom, HistoryMissing, DigestClash}
+use Rattle.ordering.specs.declared.answers.Answer.TheVariants.{Done, NoRoom, HistoryMissing, DigestClash}
 use Rattle.accept.specs.Accept.{called_for, refusal, answer_of, list_of, last_bytes, when_listed, Leaves, Taken}
 use Rattle.accept.specs.Commits.{Given, Opens, Commits, Rooms}
 use Rattle.accept.specs.Course.{course_of}

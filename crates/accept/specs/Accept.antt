@@ -1,14 +1,14 @@
 -- The ordering takes a certificate: document 01, consensus, and 'For the ordering: 11, 2, 14, 12, 13'. Assumes nothing.
-use Rattle.std.specs.Prelude.{◌≡◌, Bool, true, false, ◌&&◌, List, [], ◌∷◌, map, ℕ, ◌*◌, eqb, length, drop, replicate}
+use Rattle.std.specs.Prelude.{◌≡◌, true, false, ◌&&◌, List, [], map, ℕ, eqb, length, drop}
 use Rattle.wire.specs.Bytes.{bytes, splice}
 use Rattle.wire.specs.Items.{flat}
-use Rattle.table.specs.Rows.{count_of, places}
+use Rattle.table.specs.Rows.{places}
 use Rattle.sweep.specs.Kept.{kept}
 use Rattle.config.specs.Members.{members_of}
 use Rattle.config.specs.Committee.{valid_setup, depth_of, standing_of}
 use Rattle.config.specs.declared.committee.Standing.{Standing}
 use Rattle.config.specs.declared.committee.Standing.TheVariants.{Member, Stranger}
-use Rattle.consensus.specs.Table.{Cert, State}
+use Rattle.consensus.specs.Table.{Cert}
 use Rattle.consensus.specs.Order as order
 use Rattle.consensus.specs.Order.{Called, accept, refused, listed}
 use Rattle.held.specs.Rows.{state_of, cert_with, table_with}

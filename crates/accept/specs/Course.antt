@@ -1,5 +1,5 @@
 -- What is to be done with a certificate: 14, 12, 13, or it is held, and then opens a commit or not. Assumes nothing.
-use Rattle.std.specs.Prelude.{Bool, true, false, ◌||◌, List, ℕ, ltb, length}
+use Rattle.std.specs.Prelude.{true, false, ◌||◌, ℕ, ltb, length}
 use Rattle.consensus.specs.Table.{Cert, State, clash, holds_pair}
 use Rattle.consensus.specs.Leaders.{Agreed, decide}
 use Rattle.leaders.specs.Setup.{kind_of}

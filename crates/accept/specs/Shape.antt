@@ -1,5 +1,5 @@
 -- What a call of `ordering_add` takes: document 01, 'Sizes and domain'. Assumes nothing.
-use Rattle.std.specs.Prelude.{Bool, true, false, ◌&&◌, List, ℕ, ◌*◌, ◌/◌, ◌%◌, eqb, leb, length}
+use Rattle.std.specs.Prelude.{Bool, ◌&&◌, List, ℕ, ◌*◌, ◌/◌, ◌%◌, eqb, leb, length}
 use Rattle.wire.specs.Items.{items, keys, ascends}
 use Rattle.table.specs.Rows.{places}
 use Rattle.held.specs.Rows.{held_shape}

@@ -1,9 +1,8 @@
 -- The laws of `specs/Certificates.antt` on a call: its shape, its place, and each way through it. Assumes nothing.
 use mathlib.Core.Path.{◌≡◌, refl, sym, ap, ◌∙◌}
-use mathlib.Core.Bool.{Bool, true, false, not, ◌&&◌}
-use mathlib.Core.Logic.{⊎_elim}
-use mathlib.Core.List.{List, [], ◌∷◌, ◌++◌}
-use Prim.Native.Nat.{ℕ, ◌+◌, ◌*◌, ◌≤◌, ◌<◌}
+use mathlib.Core.Bool.{Bool, true, false, not}
+use mathlib.Core.List.{List, []}
+use Prim.Native.Nat.{ℕ, ◌≤◌, ◌<◌}
 use native.Mathlib.Omega.{arith}
 use lib.Dec.{eqb, ltb, leb}
 use lib.ListN.{length, get_or}
@@ -12,15 +11,13 @@ use Rattle.wire.specs.Bytes.{splice}
 use Rattle.wire.specs.Items.{item_in, first_of, flat}
 use Rattle.wire.specs.declared.Found.{Found}
 use Rattle.wire.specs.declared.Found.TheVariants.{At, Nothing}
-use Rattle.wire.proofs.Laws.{true-or-false}
 use Rattle.table.specs.Rows.{count_of, places, shaped, rows_of, with_row, appended}
 use Rattle.table.proofs.Laws.{row_below, row_is, row-length}
 use Rattle.config.specs.Committee.{valid_members}
 use Rattle.config.proofs.Laws.{both}
 use Rattle.aggregators.specs.Weight.{is_in}
-use Rattle.aggregators.specs.Certificates.{pair_count, pairs_of, with_pair, empty_row, of_round, are_counts, given, place_in, place_for, Certified, stay, grow, certificate_shape, count_certificate, CountsCertificate, Gives, CountsIn}
-use Rattle.aggregators.specs.declared.answers.Answer.{Answer}
-use Rattle.aggregators.specs.declared.answers.Answer.TheVariants.{Done, BadCommittee, BadShape, AuthorityReuse, NoRoom}
+use Rattle.aggregators.specs.Certificates.{pair_count, pairs_of, with_pair, empty_row, of_round, are_counts, given, place_in, place_for, stay, grow, certificate_shape, count_certificate, CountsCertificate, Gives, CountsIn}
+use Rattle.aggregators.specs.declared.answers.Answer.TheVariants.{Done, BadCommittee, BadShape, NoRoom}
 use Rattle.aggregators.specs.declared.rounds.Place.{Place}
 use Rattle.aggregators.specs.declared.rounds.Place.TheVariants.{Counted, Full, Row, New}
 use Rattle.aggregators.proofs.Counting.{counts-table}

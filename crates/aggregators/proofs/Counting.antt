@@ -1,12 +1,12 @@
 -- The laws of `specs/Certificates.antt` on what is read: rows, their pairs, and what they give. Assumes nothing.
-use mathlib.Core.Path.{◌≡◌, refl, sym, ap, ◌∙◌}
-use mathlib.Core.Bool.{Bool, true, false, not, ◌&&◌}
-use mathlib.Core.List.{List, [], ◌∷◌, ◌++◌}
-use Prim.Native.Nat.{ℕ, suc, ◌+◌, ◌-◌, ◌*◌, ◌≤◌, ◌<◌}
+use mathlib.Core.Path.{◌≡◌, sym, ap, ◌∙◌}
+use mathlib.Core.Bool.{Bool, true, false, not}
+use mathlib.Core.List.{List, []}
+use Prim.Native.Nat.{ℕ, ◌+◌, ◌-◌, ◌*◌, ◌≤◌, ◌<◌}
 use native.Mathlib.Omega.{arith}
 use lib.Dec.{eqb, ltb, leb}
-use lib.ListN.{length, get_or, drop, length-drop, length-append}
-use borrow.Author.Tests.{leb-true, le-leb, lt-leb, ltb-true, not-true, not-false}
+use lib.ListN.{length, get_or, drop, length-drop}
+use borrow.Author.Tests.{leb-true, le-leb, lt-leb, not-true, not-false}
 use Rattle.wire.specs.Bytes.{part, word}
 use Rattle.wire.specs.Items.{items, item_in, first_of, all_of, keys}
 use Rattle.wire.specs.declared.Found.{Found}
@@ -19,9 +19,8 @@ use Rattle.config.proofs.Laws.{both}
 use Rattle.aggregators.specs.Weight.{quorum_in, stake_by, is_in, enough, weight_after, gathered_after, reached}
 use Rattle.aggregators.specs.Tallies.{fresh, tally_after, digests}
 use Rattle.aggregators.specs.Listed.{listed}
-use Rattle.aggregators.specs.Certificates.{pair_count, pairs_of, of_round, few_pairs, are_counts, gathered, row_reaches, given, given_count, place_in, place_for}
+use Rattle.aggregators.specs.Certificates.{pair_count, pairs_of, of_round, few_pairs, are_counts, gathered, row_reaches, given_count, place_in, place_for}
 use Rattle.aggregators.specs.declared.tally.Tally.{Tally}
-use Rattle.aggregators.specs.declared.rounds.Place.{Place}
 use Rattle.aggregators.specs.declared.rounds.Place.TheVariants.{Counted, Full, Row, New}
 use Rattle.aggregators.proofs.Weights.{weight_is, weight-small, from_is, gathered-is, length-digests}
 

@@ -1,18 +1,17 @@
 -- The laws of `specs/Certificates.antt` on what is written: pairs, rows, and the digests given. Assumes nothing.
 use mathlib.Core.Path.{◌≡◌, refl, sym, ap, ◌∙◌}
-use mathlib.Core.Bool.{Bool, true, false, not, ◌&&◌}
+use mathlib.Core.Bool.{Bool, true, false}
 use mathlib.Core.Logic.{⊎_elim}
-use mathlib.Core.List.{List, [], ◌∷◌, ◌++◌, append-nil}
-use Prim.Native.Nat.{ℕ, zero, suc, ◌+◌, ◌-◌, ◌*◌, ◌≤◌, ◌<◌}
-use native.Mathlib.Nat.{zero-mul, suc-mul}
+use mathlib.Core.List.{List, [], ◌∷◌, ◌++◌}
+use Prim.Native.Nat.{ℕ, ◌+◌, ◌-◌, ◌*◌, ◌≤◌, ◌<◌}
 use native.Mathlib.Omega.{arith}
-use lib.ListN.{length, get_or, set, take, drop, replicate, length-take, length-drop, length-append, length-set, length-replicate, drop_of_length-le}
+use lib.ListN.{length, get_or, set, take, drop, replicate, length-take, length-drop, length-append, length-replicate, drop_of_length-le}
 use lib.Seq.{drop-append-le, take_at}
 use Rattle.wire.specs.Bytes.{part, splice, word, bytes}
 use Rattle.wire.specs.Items.{items, chunks, item_in, keys, flat}
 use Rattle.wire.proofs.Laws.{true-or-false, length_part, length-splice, length-bytes, word_bytes, put-mid}
-use Rattle.wire.proofs.Lists.{Sized, none, one, items-sized, item-fits, item-length, length-items, flat_append, flat-one, length-keys, sized-at, next-mul}
-use Rattle.table.specs.Rows.{count_of, shaped, rows_of, with_row, appended, round_of}
+use Rattle.wire.proofs.Lists.{Sized, none, one, items-sized, item-length, length-items, flat_append, flat-one, length-keys, sized-at}
+use Rattle.table.specs.Rows.{count_of, shaped, rows_of, with_row, round_of}
 use Rattle.table.proofs.Laws.{is-table, row_fits, row_is, set_is}
 use Rattle.aggregators.specs.Weight.{digest_of, quorum_in, stake_by}
 use Rattle.aggregators.specs.Tallies.{fresh, tally_after, digests}

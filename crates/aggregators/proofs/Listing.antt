@@ -1,10 +1,10 @@
 -- The laws of `specs/Listed.antt`: an item more is an item more of the list. Assumes nothing.
-use mathlib.Core.Path.{◌≡◌, refl, sym, ap, ◌∙◌}
+use mathlib.Core.Path.{◌≡◌, sym, ap, ◌∙◌}
 use mathlib.Core.List.{List, [], ◌∷◌, ◌++◌, append_assoc}
-use Prim.Native.Nat.{ℕ, zero, suc, ◌+◌, ◌-◌, ◌*◌, ◌≤◌, ◌<◌}
+use Prim.Native.Nat.{ℕ, zero, suc, ◌+◌, ◌*◌, ◌≤◌, ◌<◌}
 use native.Mathlib.Nat.{add_assoc}
 use native.Mathlib.Omega.{arith}
-use lib.ListN.{length, get_or, set, take, drop, length-take, length-drop, length-append, length-set, take-append-drop}
+use lib.ListN.{length, get_or, set, take, drop, length-drop, length-append, length-set, take-append-drop}
 use lib.Seq.{drop_at, drop-drop, length-take-le, drop-set-lt, get_or-set_same, get_or-set_other}
 use Rattle.wire.specs.Bytes.{part, splice}
 use Rattle.wire.specs.Items.{items, item_in, chunks, flat}

@@ -1,32 +1,31 @@
 -- What a call leaves, as lists: the voters and their weight, a row and what it has gathered; and that the next call finds them in shape.
 -- Assumes nothing.
 use mathlib.Core.Path.{◌≡◌, refl, sym, ap, ◌∙◌}
-use mathlib.Core.Bool.{Bool, true, false, ◌&&◌}
+use mathlib.Core.Bool.{Bool, true, false}
 use mathlib.Core.List.{List, [], ◌∷◌, ◌++◌, append-nil}
 use Prim.Native.Nat.{ℕ, zero, suc, ◌+◌, ◌*◌, ◌≤◌, ◌<◌, ◌^◌}
 use native.Mathlib.Omega.{arith}
-use lib.Dec.{eqb, leb}
 use lib.ListN.{length, get_or, set, drop}
 use borrow.Author.Tests.{eq-eqb, le-leb}
 use Rattle.wire.specs.Bytes.{part}
 use Rattle.wire.specs.Items.{all_of, key_of, keys}
 use Rattle.wire.proofs.Laws.{true-not-false}
 use Rattle.wire.proofs.Lists.{part-seam}
-use Rattle.table.specs.Rows.{count_of, places, shaped, rows_of, past_of, with_row, appended, round_of}
+use Rattle.table.specs.Rows.{rows_of, past_of, with_row, appended}
 use Rattle.table.proofs.Laws.{After, set_after, append-after}
 use Rattle.config.specs.Committee.{valid_members}
-use Rattle.aggregators.specs.Weight.{quorum_in, stake_by, weighed, weight_after, held, digest_of, gathered_after}
-use Rattle.aggregators.specs.Listed.{listed, added}
+use Rattle.aggregators.specs.Weight.{quorum_in, stake_by, weighed, held, digest_of}
+use Rattle.aggregators.specs.Listed.{added}
 use Rattle.aggregators.specs.Votes.{voter_count, voters_of, with_voter, are_voters, votes_weight, OneMore}
-use Rattle.aggregators.specs.Certificates.{pair_count, pairs_of, with_pair, empty_row, few_pairs, are_counts, gathered, row_weight, given, place_for, stay, grow, certificate_shape, count_certificate, PairMore}
+use Rattle.aggregators.specs.Certificates.{pair_count, pairs_of, with_pair, empty_row, few_pairs, are_counts, gathered, row_weight, place_for, stay, grow, certificate_shape, count_certificate, PairMore}
 use Rattle.aggregators.specs.declared.rounds.Place.{Place}
 use Rattle.aggregators.specs.declared.rounds.Place.TheVariants.{Counted, Full, Row, New}
 use Rattle.aggregators.proofs.Weights.{weight-more, gathered-more, keys-more}
 use Rattle.aggregators.proofs.Listing.{length-added, count-added, listed-added}
 use Rattle.aggregators.proofs.Voting.{are-voters}
-use Rattle.aggregators.proofs.Counting.{counts-table, counts-few}
+use Rattle.aggregators.proofs.Counting.{counts-few}
 use Rattle.aggregators.proofs.Giving.{length-with, pairs-with, count-with, round_with, length-empty, count-empty, row-of-length}
-use Rattle.aggregators.proofs.Certifying.{InShape, in-shape, InRow, in_row, in-new}
+use Rattle.aggregators.proofs.Certifying.{in-shape, in_row, in-new}
 
 -- ---- votes
 module _ (ms t author : List ℕ) (h : are_voters t ≡ true) (k : voter_count t < 32) (l : length author ≡ 32) where

@@ -1,11 +1,11 @@
 -- The laws of `specs/Answers.antt` and `specs/Votes.antt`. Assumes nothing.
-use mathlib.Core.Path.{◌≡◌, refl, sym, ap, ◌∙◌}
-use mathlib.Core.Bool.{Bool, true, false, not, ◌&&◌}
-use mathlib.Core.List.{List, [], ◌∷◌, ◌++◌}
-use Prim.Native.Nat.{ℕ, ◌+◌, ◌-◌, ◌*◌, ◌≤◌, ◌<◌}
+use mathlib.Core.Path.{◌≡◌, sym, ap, ◌∙◌}
+use mathlib.Core.Bool.{Bool, true, false, not}
+use mathlib.Core.List.{List}
+use Prim.Native.Nat.{ℕ, ◌+◌, ◌*◌, ◌≤◌, ◌<◌}
 use native.Mathlib.Omega.{arith}
 use lib.Dec.{eqb, leb}
-use lib.ListN.{length, get_or, set}
+use lib.ListN.{length, set}
 use borrow.Author.Tests.{eq-eqb, ne_eqb, eqb-true, leb-true, le-leb, lt-leb, not-true, not-false}
 use Rattle.wire.specs.Bytes.{splice}
 use Rattle.wire.specs.Items.{items, keys}
@@ -13,10 +13,10 @@ use Rattle.wire.proofs.Lists.{items-sized}
 use Rattle.config.specs.Committee.{valid_members}
 use Rattle.config.proofs.Laws.{both}
 use Rattle.aggregators.specs.Answers.{code_of}
-use Rattle.aggregators.specs.Weight.{quorum_in, stake_by, is_in, enough, weight_after, reached}
+use Rattle.aggregators.specs.Weight.{quorum_in, stake_by, is_in, enough, reached}
 use Rattle.aggregators.specs.Tallies.{fresh, tally_after}
 use Rattle.aggregators.specs.Listed.{listed, added}
-use Rattle.aggregators.specs.Votes.{voter_count, voters_of, with_voter, are_voters, votes_weight, vote_reaches, Vote, refuse, accept, count_vote, CountsVote}
+use Rattle.aggregators.specs.Votes.{voter_count, voters_of, with_voter, are_voters, votes_weight, vote_reaches, refuse, accept, count_vote, CountsVote}
 use Rattle.aggregators.specs.declared.tally.Tally.{Tally}
 use Rattle.aggregators.specs.declared.answers.Answer.{Answer}
 use Rattle.aggregators.specs.declared.answers.Answer.TheVariants.{Done, BadCommittee, BadShape, AuthorityReuse, NoRoom}

@@ -2,21 +2,20 @@
 use mathlib.Core.Path.{◌≡◌, refl, sym, ap, ◌∙◌}
 use mathlib.Core.Bool.{Bool, true, false}
 use mathlib.Core.Logic.{⊎_elim}
-use mathlib.Core.List.{List, [], ◌∷◌, ◌++◌, append_assoc, append-nil}
-use Prim.Native.Nat.{ℕ, zero, suc, ◌+◌, ◌-◌, ◌*◌, ◌≤◌, ◌<◌}
+use mathlib.Core.List.{List, [], ◌∷◌, ◌++◌, append-nil}
+use Prim.Native.Nat.{ℕ, suc, ◌+◌, ◌*◌, ◌≤◌, ◌<◌}
 use native.Mathlib.Numerals.{add-one}
 use native.Mathlib.Omega.{arith}
 use lib.Dec.{leb}
-use lib.ListN.{length, get_or, take, drop, drop_of_length-le, length-append}
+use lib.ListN.{length, get_or, drop, drop_of_length-le, length-append}
 use lib.Seq.{drop-cons, drop-append-le, append_snoc}
 use borrow.Author.Tests.{le-leb, lt-leb, leb-false}
-use Rattle.wire.specs.Bytes.{part}
 use Rattle.wire.specs.Items.{items, item_in, first_of, has_part, key_of, keys}
 use Rattle.wire.specs.declared.Found.{Found}
 use Rattle.wire.specs.declared.Found.TheVariants.{At, Nothing}
 use Rattle.wire.proofs.Laws.{true-or-false, length_part, part-all}
 use Rattle.wire.proofs.Lists.{Sized, none, one, item-fits, item-is, item-length, length-items}
-use Rattle.config.specs.Members.{members_of, some}
+use Rattle.config.specs.Members.{members_of}
 use Rattle.config.specs.Committee.{total, quorum, stake_of, valid_members}
 use Rattle.config.proofs.Laws.{valid-weight}
 use Rattle.aggregators.specs.Weight.{quorum_in, stake_by, is_in, enough, weighed, weight_after, held, digest_of, gathered_after}

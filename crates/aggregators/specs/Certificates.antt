@@ -2,7 +2,6 @@
 use Rattle.std.specs.Prelude.{ℕ, ◌+◌, ◌-◌, ◌≡◌, Bool, true, false, ◌&&◌, List, [], ◌∷◌, ◌++◌, length, get_or, drop, replicate, eqb, ltb, leb}
 use Rattle.wire.specs.Bytes.{splice, bytes}
 use Rattle.wire.specs.Items.{first_of, all_of, keys, flat}
-use Rattle.wire.specs.declared.Found.{Found}
 use Rattle.wire.specs.declared.Found.TheVariants.{At, Nothing}
 use Rattle.table.specs.Rows.{count_of, places, shaped, rows_of, appended, with_row, round_of}
 use Rattle.config.specs.Committee.{valid_members}
@@ -10,7 +9,7 @@ use Rattle.aggregators.specs.Weight.{quorum_in, stake_by, is_in, weighed, weight
 use Rattle.aggregators.specs.Tallies.{digests}
 use Rattle.aggregators.specs.Listed.{listed, added}
 use Rattle.aggregators.specs.declared.answers.Answer.{Answer}
-use Rattle.aggregators.specs.declared.answers.Answer.TheVariants.{Done, BadCommittee, BadShape, AuthorityReuse, NoRoom}
+use Rattle.aggregators.specs.declared.answers.Answer.TheVariants.{Done, BadCommittee, BadShape, NoRoom}
 use Rattle.aggregators.specs.declared.rounds.Place.{Place}
 use Rattle.aggregators.specs.declared.rounds.Place.TheVariants.{Counted, Full, Row, New}
 

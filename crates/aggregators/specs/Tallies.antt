@@ -1,6 +1,6 @@
 -- The same as the code keeps it: the weight, and the place of the first key since quorum was last reached. That these say what
 -- `specs/Weight.antt` says is proved in `proofs/Weights.antt`. Assumes nothing.
-use Rattle.std.specs.Prelude.{ℕ, suc, ◌+◌, Bool, true, false, List, [], ◌∷◌}
+use Rattle.std.specs.Prelude.{ℕ, suc, ◌+◌, true, false, List, [], ◌∷◌}
 use Rattle.aggregators.specs.Weight.{enough, digest_of}
 use Rattle.aggregators.specs.declared.tally.Tally.{Tally}
 

@@ -1,15 +1,12 @@
 -- The laws of the checks, one for each way through. The premises are what the tests and the callees say. Assumes nothing.
 use mathlib.Core.Path.{◌≡◌, refl, sym, ap, ◌∙◌}
 use mathlib.Core.Bool.{Bool, true, false, not, and-false}
-use mathlib.Core.List.{List, [], ◌∷◌}
+use mathlib.Core.List.{List, []}
 use Prim.Native.Nat.{ℕ, zero, suc, ◌+◌, ◌*◌, ◌/◌, ◌≤◌, ◌<◌}
 use native.Mathlib.Omega.{arith}
 use lib.Dec.{eqb}
 use lib.ListN.{length, get_or}
 use borrow.Author.Tests.{lt-ltb, le-ltb, le-leb, lt-leb, not-true, not-false}
-use types.Run.{OneOf, miss}
-use denote.Enum.Declared.{tag_of}
-use Rattle.checks.specs.contracts.answers.Answer.{the_type}
 use Rattle.wire.specs.Items.{items, item_in, all_of}
 use Rattle.wire.proofs.Laws.{length_part}
 use Rattle.wire.proofs.Lists.{Testing, testing-start, item-is, item-fits, item-length, all-at}
@@ -25,7 +22,7 @@ use Rattle.messages.proofs.Laws.{header-length, header-payload, vote-length, cer
 use Rattle.checks.specs.Answers.{code_of, ensure, and_then}
 use Rattle.checks.specs.Header.{has_stake, works_for, workers_known, header_checks, header_check}
 use Rattle.checks.specs.Vote.{vote_checks, vote_check}
-use Rattle.checks.specs.Certificate.{among, votes_checks, certificate_checks, certificate_check}
+use Rattle.checks.specs.Certificate.{votes_checks, certificate_checks, certificate_check}
 use Rattle.checks.specs.declared.answers.Answer.{Answer}
 use Rattle.checks.specs.declared.answers.Answer.TheVariants.{Done, BadCommittee, BadShape, InvalidHeaderId, UnknownAuthority, MalformedHeader, InvalidSignature, AuthorityReuse, CertificateRequiresQuorum}
 

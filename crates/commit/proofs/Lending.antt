@@ -1,7 +1,6 @@
 -- The link room lent in two parts: marks before place h, the leaders' rounds from it on. Assumes nothing.
-use mathlib.Core.Path.{◌≡◌, refl, sym, ap, ◌∙◌, subst}
-use mathlib.Core.Bool.{true}
-use mathlib.Core.List.{List, [], ◌∷◌, ◌++◌, append_assoc}
+use mathlib.Core.Path.{◌≡◌, refl, ap, ◌∙◌}
+use mathlib.Core.List.{List, ◌++◌}
 use Prim.Native.Nat.{ℕ, ◌+◌, ◌-◌, ◌*◌, ◌^◌, ◌≤◌, ◌<◌}
 use native.Mathlib.Omega.{arith}
 use lib.ListN.{length, get_or, take, drop, length-append, length-take, length-drop}
@@ -14,7 +13,7 @@ use Rattle.consensus.specs.Walk.{list_under}
 use Rattle.consensus.specs.Listing.{serve}
 use Rattle.held.specs.Rows.{held_of, lasts_of, state_of}
 use Rattle.commit.specs.Commit.{leader_in, leaders_of, Ready, Turned, Opened, Committed}
-use Rattle.commit.proofs.Serving.{Serves, serves-start, serves-fits, serves-present, serves-above, serves-room, serves-sum, serves-next, serves-done, whole}
+use Rattle.commit.proofs.Serving.{Serves, serves-start, serves-fits, serves-present, serves-above, serves-room, serves-sum, serves-next, serves-done}
 
 -- what is lent of the marks
 part_length : (link : List ℕ) (h : ℕ) → h ≤ length link → length (take (h - 0) (drop 0 link)) ≡ h

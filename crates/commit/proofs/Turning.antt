@@ -1,10 +1,10 @@
 -- A leader's turn. Assumes nothing.
 use mathlib.Core.Path.{◌≡◌, refl, sym, ap, ◌∙◌}
-use mathlib.Core.Bool.{Bool, true, false}
-use mathlib.Core.List.{List, [], ◌∷◌, ◌++◌, map}
-use Prim.Native.Nat.{ℕ, zero, suc, ◌+◌, ◌-◌, ◌*◌, ◌^◌, ◌≤◌, ◌<◌}
+use mathlib.Core.Bool.{true}
+use mathlib.Core.List.{List, map}
+use Prim.Native.Nat.{ℕ, ◌+◌, ◌-◌, ◌*◌, ◌^◌, ◌≤◌, ◌<◌}
 use native.Mathlib.Omega.{arith}
-use lib.ListN.{length, get_or, take, drop, length-map, length-append, length-take, length-drop}
+use lib.ListN.{length, take, drop, length-map, length-take, length-drop}
 use lib.Seq.{length-take-le}
 use Rattle.table.specs.Rows.{count_of, shaped}
 use Rattle.room.specs.Numbers.{numbers_of}
@@ -19,8 +19,8 @@ use Rattle.consensus.proofs.Lists.{at_in}
 use Rattle.consensus.proofs.Find.{find-some}
 use Rattle.consensus.proofs.Leading.{pair-round}
 use Rattle.consensus.proofs.ClearOnce.{raise_all, turn-once}
-use Rattle.held.specs.Rows.{held_of, held_shape, lasts_of, state_of}
-use Rattle.held.proofs.Laws.{length-held, lawful-shape, digest-length}
+use Rattle.held.specs.Rows.{held_of, lasts_of, state_of}
+use Rattle.held.proofs.Laws.{length-held, digest-length}
 use Rattle.dag.specs.Ordered.{Ordered}
 use Rattle.update.specs.Update.{entries_of}
 use Rattle.update.proofs.Laws.{Cleared, cleared, each-length}

@@ -2,20 +2,20 @@
 use mathlib.Core.Path.{◌≡◌, refl, sym, ap, ◌∙◌}
 use mathlib.Core.Bool.{Bool, true, false, not, ◌&&◌}
 use mathlib.Core.List.{List, []}
-use Prim.Native.Nat.{ℕ, ◌+◌, ◌-◌, ◌*◌, ◌/◌, ◌%◌, ◌≤◌, ◌<◌}
+use Prim.Native.Nat.{ℕ, ◌+◌, ◌*◌, ◌/◌, ◌%◌, ◌≤◌, ◌<◌}
 use native.Mathlib.Nat.{mod-lt}
 use native.Mathlib.Omega.{arith}
 use lib.Dec.{eqb, leb}
-use lib.ListN.{length, get_or, drop, length-drop}
+use lib.ListN.{length, get_or, drop}
 use borrow.Author.Tests.{eq-eqb, ne_eqb, eqb-true, leb-true, le-leb, lt-leb, not-true, not-false}
 use Rattle.wire.specs.Bytes.{part, word}
 use Rattle.wire.specs.Items.{items, item_in, first_of, has_part, sum_of, all_of, keys, ascends}
 use Rattle.wire.specs.declared.Found.{Found}
 use Rattle.wire.specs.declared.Found.TheVariants.{At, Nothing}
 use Rattle.wire.proofs.Laws.{part-all, true-not-false}
-use Rattle.wire.proofs.Lists.{Seek, seek-start, seek-item, seek_hit, seek-miss, seek-done, all-at, item-is, items-sized, sized-at, length-items, first_found, found_below, found-fits, found-is, found-length}
-use Rattle.config.specs.Members.{members_of, stake_in, worker_count, workers_in, is_worker, some, has_worker, lawful}
-use Rattle.config.specs.Committee.{total, quorum, validity, valid_members, depth_of, valid_setup, standing_of, stake_for, stake_of, leader_place}
+use Rattle.wire.proofs.Lists.{Seek, seek-start, seek-item, seek_hit, seek-miss, seek-done, length-items, first_found, found-fits, found-is, found-length}
+use Rattle.config.specs.Members.{members_of, stake_in, worker_count, workers_in, is_worker, has_worker, lawful}
+use Rattle.config.specs.Committee.{total, quorum, validity, valid_members, depth_of, valid_setup, standing_of, stake_of, leader_place}
 use Rattle.config.specs.declared.committee.Standing.{Standing}
 use Rattle.config.specs.declared.committee.Standing.TheVariants.{Member, Stranger}
 

@@ -2,21 +2,21 @@
 use mathlib.Core.Path.{◌≡◌, refl, sym, ap, ◌∙◌}
 use mathlib.Core.Bool.{Bool, true, false, not, ◌&&◌}
 use mathlib.Core.List.{List, []}
-use Prim.Native.Nat.{ℕ, ◌+◌, ◌-◌, ◌*◌, ◌/◌, ◌%◌, ◌≤◌, ◌<◌}
+use Prim.Native.Nat.{ℕ, ◌+◌, ◌-◌, ◌*◌, ◌/◌, ◌≤◌, ◌<◌}
 use native.Mathlib.Omega.{arith}
 use lib.Dec.{eqb, leb}
 use lib.ListN.{length, get_or, drop, length-drop}
 use borrow.Author.Tests.{eq-eqb, ne_eqb, le-leb, lt-leb, not-true, not-false}
-use Rattle.wire.specs.Items.{items, item_in}
+use Rattle.wire.specs.Items.{item_in}
 use Rattle.wire.proofs.Lists.{all-at, item-fits, item-is, item-length}
 use Rattle.config.specs.Members.{members_of, worker_count, has_worker, lawful}
-use Rattle.config.specs.Committee.{valid_members, valid_setup, standing_of, leader_place}
+use Rattle.config.specs.Committee.{valid_members, valid_setup, standing_of}
 use Rattle.config.specs.Answers.{code_of, of_members, shaped_as, setup_answer, worker_of}
 use Rattle.config.specs.declared.committee.Standing.{Standing}
 use Rattle.config.specs.declared.committee.Standing.TheVariants.{Member, Stranger}
 use Rattle.config.specs.declared.answers.Answer.{Answer}
 use Rattle.config.specs.declared.answers.Answer.TheVariants.{Done, BadCommittee, BadShape}
-use Rattle.config.proofs.Laws.{valid, valid-setup, valid-some, members-are, members-fit, length-members, lawful-workers, standing-below}
+use Rattle.config.proofs.Laws.{valid, valid-setup, members-are, members-fit, length-members, lawful-workers, standing-below}
 
 -- ---- the numbers
 pub code-done : (a : Answer) (n : ℕ) → a ≡ Done n → 256 * n ≡ code_of a

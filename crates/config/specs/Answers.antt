@@ -1,8 +1,7 @@
 -- What each question on a member list is answered, for every input: document 01, 10 BadCommittee, then 11 BadShape. Assumes nothing.
-use Rattle.std.specs.Prelude.{ℕ, ◌+◌, ◌-◌, ◌*◌, ◌/◌, Bool, true, false, ◌&&◌, List, [], length, get_or, drop, eqb, leb}
+use Rattle.std.specs.Prelude.{ℕ, ◌+◌, ◌*◌, ◌/◌, Bool, true, false, ◌&&◌, List, [], length, get_or, drop, eqb, leb}
 use Rattle.config.specs.Members.{members_of, has_worker}
 use Rattle.config.specs.Committee.{total, quorum, validity, valid_members, valid_setup, standing_of, stake_of, leader_place}
-use Rattle.config.specs.declared.committee.Standing.{Standing}
 use Rattle.config.specs.declared.committee.Standing.TheVariants.{Member, Stranger}
 use Rattle.config.specs.declared.answers.Answer.{Answer}
 use Rattle.config.specs.declared.answers.Answer.TheVariants.{Done, BadCommittee, BadShape}

@@ -1,8 +1,7 @@
 -- The committee: document 01, 'Sizes and domain', Members, and 'config'. Assumes nothing.
-use Rattle.std.specs.Prelude.{ℕ, ◌+◌, ◌*◌, ◌/◌, ◌%◌, Bool, true, false, ◌&&◌, List, [], length, get_or, drop, eqb, leb}
+use Rattle.std.specs.Prelude.{ℕ, ◌+◌, ◌*◌, ◌/◌, ◌%◌, Bool, ◌&&◌, List, [], length, get_or, drop, eqb, leb}
 use Rattle.wire.specs.Bytes.{part, word}
 use Rattle.wire.specs.Items.{first_of, has_part, sum_of, all_of, keys, ascends}
-use Rattle.wire.specs.declared.Found.{Found}
 use Rattle.wire.specs.declared.Found.TheVariants.{At, Nothing}
 use Rattle.config.specs.Members.{members_of, stake_in, lawful}
 use Rattle.config.specs.declared.committee.Standing.{Standing}

@@ -1,5 +1,5 @@
 -- Member lists to run the definitions on. Assumes nothing.
-use Rattle.std.specs.Prelude.{List, [], ◌∷◌, ◌++◌, ℕ, zero, suc, ◌-◌, ◌*◌, length, replicate}
+use Rattle.std.specs.Prelude.{List, [], ◌∷◌, ◌++◌, ℕ, suc, ◌-◌, ◌*◌, length, replicate}
 use Rattle.wire.specs.Bytes.{bytes}
 
 -- the ids of workers, each in 4 bytes

@@ -4,7 +4,7 @@ use mathlib.Core.Path.{◌≡◌, refl}
 use Prim.Native.Nat.{◌+◌, suc, ℕ}
 use native.Mathlib.Omega.{arith}
 use lib.ListN.{length, length-append}
-use Rattle.consensus.specs.Listing.{Event, Fate, Served, Step, clear, clearings, fate, goes, list_all, list_one, raise, serve, stays, steps_of, told, trace}
+use Rattle.consensus.specs.Listing.{Fate, Served, Step, clear, clearings, fate, goes, list_all, list_one, raise, serve, stays, steps_of, told, trace}
 use Rattle.consensus.specs.Table.{Cert, State, highest}
 use Rattle.consensus.specs.Walk.{list_under}
 

@@ -5,12 +5,10 @@ use mathlib.Core.List.{List, [], ◌∷◌}
 use mathlib.Core.Logic.{◌⊎◌, inl, inr, ⊎_elim}
 use mathlib.Core.Path.{◌∙◌, ◌≡◌, ap, refl, subst, sym}
 use Prim.Native.Nat.{◌+◌, ◌<◌, ◌≤◌, suc, zero, ℕ}
-use native.Mathlib.Nat.{le_of_suc-le-suc, not-suc-le-zero}
 use native.Mathlib.Omega.{arith}
-use borrow.Author.Tests.{eq-eqb, eqb-false, eqb-true}
+use borrow.Author.Tests.{eqb-false, eqb-true}
 use lib.Dec.{eqb}
 use lib.ListN.{get_or, length, length-replicate, length-set, replicate, set}
-use lib.Seq.{get_or-set_other, get_or-set_same}
 use Rattle.consensus.specs.Among.{In, Once}
 use Rattle.consensus.specs.Walk.{Pile, put_all, put_one, walk}
 use Rattle.consensus.proofs.Marks.{Up, ones, ones-le, ones_none, ones-set, up-back, up_more, up-set, zeros}

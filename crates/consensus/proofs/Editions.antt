@@ -10,8 +10,8 @@ use borrow.Author.Tests.{leb-true}
 use lib.Dec.{leb}
 use Rattle.consensus.specs.Among.{In}
 use Rattle.consensus.specs.Candidates.{Descending, Falling, edition1, edition2, every_second}
+
 -- the examples come first: a wrong definition is refused by a case, where there is one
-use Rattle.consensus.proofs.Examples.{examples}
 
 pub second-in : (n r low q : ℕ) → In q (every_second n r low) → (low ≤ q) × (q ≤ r)
 unfolding every_second

@@ -11,8 +11,8 @@ use lib.Dec.{eqb}
 use lib.ListN.{length}
 use Rattle.consensus.specs.Among.{In, Once}
 use Rattle.consensus.specs.Table.{Cert, cert_at, of_round}
+
 -- the examples come first: a wrong definition is refused by a case, where there is one
-use Rattle.consensus.proofs.Examples.{examples}
 
 module _ {A : Type 0} where
   pub in_app : (a b : List A) (c : A) → In c (a ++ b) → In c a ⊎ In c b

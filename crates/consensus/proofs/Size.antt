@@ -1,16 +1,15 @@
 -- The list of a commit is never longer than the table, whatever the table holds: a listed place is cleared or at rest afterwards,
 -- and neither is walked to again. Assumes nothing.
 use mathlib.Core.Bool.{Bool, false, true}
-use mathlib.Core.List.{List, [], ◌++◌, ◌∷◌, map}
+use mathlib.Core.List.{List, [], ◌∷◌, map}
 use mathlib.Core.Logic.{inl, inr}
 use mathlib.Core.Path.{◌∙◌, ◌≡◌, ap, refl, subst, sym}
-use Prim.Native.Nat.{◌+◌, ◌-◌, ◌<◌, ◌≤◌, suc, suc-le-suc, zero, ℕ}
-use native.Mathlib.Nat.{le_of_suc-le-suc, not-suc-le-zero}
+use Prim.Native.Nat.{◌+◌, ◌-◌, ◌<◌, ◌≤◌, suc, suc-le-suc, ℕ}
 use native.Mathlib.Omega.{arith}
-use borrow.Author.Tests.{eq-eqb, eqb-false, eqb-true, ne_eqb}
+use borrow.Author.Tests.{eq-eqb, ne_eqb}
 use lib.Dec.{eqb, leb, ltb}
 use lib.ListN.{get_or, length, length-append, length-map}
-use Rattle.consensus.specs.Among.{In, Once}
+use Rattle.consensus.specs.Among.{In}
 use Rattle.consensus.specs.Listing.{Cause, Fate, clear, fate, goes, list_all, raise, serve, stays}
 use Rattle.consensus.specs.Table.{Cert, State, cert_at, find, highest}
 use Rattle.consensus.specs.Walk.{by_round, drop_deep, list_under, parents_at, place, walk_from}

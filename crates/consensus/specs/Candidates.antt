@@ -1,5 +1,5 @@
 -- The rounds in which earlier leaders are looked for: document 01's, a later edition's, and what any choice must be. Assumes nothing.
-use Rattle.std.specs.Prelude.{Bool, true, false, List, [], ◌∷◌, ℕ, zero, suc, ◌+◌, ◌-◌, ◌<◌, leb}
+use Rattle.std.specs.Prelude.{true, false, List, [], ◌∷◌, ℕ, zero, suc, ◌+◌, ◌-◌, ◌<◌, leb}
 use Rattle.consensus.specs.Among.{In}
 
 -- r, r - 2 and so on, not below low; n bounds the turns

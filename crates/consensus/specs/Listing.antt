@@ -1,6 +1,6 @@
 -- Listing, step by step: document 01, consensus, from 'Then for each listed one' to the end. Each step gives the state after it, and tells
 -- why each certificate that is cleared at it goes. Assumes nothing.
-use Rattle.std.specs.Prelude.{Bool, true, false, List, [], ◌∷◌, ◌++◌, ℕ, ◌+◌, max, ltb, get_or, set}
+use Rattle.std.specs.Prelude.{true, false, List, [], ◌∷◌, ◌++◌, ℕ, ◌+◌, max, ltb, get_or, set}
 use Rattle.consensus.specs.Table.{Cert, State, highest}
 use Rattle.consensus.specs.Walk.{list_under}
 

@@ -1,8 +1,8 @@
 -- One call of the ordering, and a run of calls: document 01, 'For the ordering: 11, 2, 14, 12, 13'. Of 11 only round 0 stands here: the
 -- other shapes are bytes, and the caller's. Assumes nothing.
-use Rattle.std.specs.Prelude.{Bool, true, false, ◌||◌, List, [], ◌∷◌, ◌++◌, ℕ, ltb, eqb, length}
+use Rattle.std.specs.Prelude.{true, false, ◌||◌, List, [], ◌∷◌, ◌++◌, ℕ, ltb, eqb, length}
 use Rattle.consensus.specs.Table.{Cert, State, clash, holds_pair, insert, fresh}
-use Rattle.consensus.specs.Leaders.{Agreed, Decision, quiet, missing, opens, decide}
+use Rattle.consensus.specs.Leaders.{Agreed, quiet, missing, opens, decide}
 use Rattle.consensus.specs.Listing.{Step, Served, serve}
 
 pub data Answer : Type 0 where

@@ -2,10 +2,9 @@
 -- test that says yes is an equality. Assumes nothing.
 use mathlib.Core.Path.{◌≡◌, refl, sym}
 use mathlib.Core.Bool.{Bool, true, false}
-use mathlib.Core.List.{List, [], ◌∷◌, ◌++◌}
-use Prim.Native.Nat.{ℕ}
+use mathlib.Core.List.{List, [], ◌∷◌}
 use Rattle.wire.specs.Bytes.{part, alike, less, word, bytes}
-use Rattle.wire.specs.Items.{chunks, items, first_of, has_part, sum_of, all_of, key_of, keys, ascends, ascends_from}
+use Rattle.wire.specs.Items.{chunks, items, sum_of, all_of, key_of, keys, ascends, ascends_from}
 use Rattle.wire.proofs.Laws.{alike-true, true-not-false}
 use Rattle.config.specs.Members.{members_of, stake_in, worker_count, lawful}
 use Rattle.config.specs.Committee.{total, quorum, validity, valid_members, leader_place}

@@ -5,8 +5,8 @@ use Rattle.consensus.specs.Among.{In, Once}
 use Rattle.consensus.specs.Table.{Cert, State, highest, of_round}
 use Rattle.consensus.specs.Leaders.{Agreed, total_stake, stake_naming, leaders, leaders_from}
 use Rattle.consensus.specs.Candidates.{Falling}
-use Rattle.consensus.specs.Listing.{Cause, later, deep, Event, cleared, list_one, list_all, Step, steps_of, told, trace}
-use Rattle.consensus.specs.Order.{Answer, refused, listed, put, Called, accept, History, call, run, start}
+use Rattle.consensus.specs.Listing.{Cause, later, deep, cleared, list_one, list_all, Step, steps_of, told, trace}
+use Rattle.consensus.specs.Order.{refused, listed, put, Called, accept, History, call, run, start}
 
 -- lower rounds first
 abbrev pub LowerFirst : List Cert → Type 0

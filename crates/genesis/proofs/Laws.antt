@@ -1,12 +1,11 @@
 -- The laws of `specs/Genesis.antt`. Assumes nothing.
 use mathlib.Core.Path.{◌≡◌, refl, sym, ap, ◌∙◌}
-use mathlib.Core.Bool.{Bool, true, false, not, ◌&&◌}
+use mathlib.Core.Bool.{Bool, true, false, not}
 use mathlib.Core.List.{List, [], ◌∷◌}
-use Prim.Native.Nat.{ℕ, zero, suc, ◌+◌, ◌-◌, ◌*◌, ◌/◌, ◌≤◌, ◌<◌}
+use Prim.Native.Nat.{ℕ, ◌+◌, ◌-◌, ◌*◌, ◌/◌, ◌≤◌, ◌<◌}
 use native.Mathlib.Numerals.{add-one}
 use native.Mathlib.Omega.{arith}
-use lib.Dec.{eqb}
-use lib.ListN.{length, get_or, drop, drop_of_length-le}
+use lib.ListN.{length, drop, drop_of_length-le}
 use lib.Seq.{drop-cons}
 use borrow.Author.Tests.{eq-eqb, ne_eqb, eqb-true, not-true, not-false}
 use Rattle.wire.specs.Bytes.{part, word, alike}
@@ -14,7 +13,7 @@ use Rattle.wire.specs.Items.{items, item_in, first_of, has_part, key_of}
 use Rattle.wire.specs.declared.Found.{Found}
 use Rattle.wire.specs.declared.Found.TheVariants.{At, Nothing}
 use Rattle.wire.proofs.Laws.{length_part}
-use Rattle.wire.proofs.Lists.{item-is, item-fits, item-length, length-items, items-drop, next-mul}
+use Rattle.wire.proofs.Lists.{item-is, item-length, length-items, items-drop}
 use Rattle.config.specs.Members.{members_of}
 use Rattle.config.proofs.Laws.{both, members-are, length-members}
 use Rattle.genesis.specs.Genesis.{record_round, record_origin, record_digest, records_of, belongs, paired, distinct, valid_genesis}

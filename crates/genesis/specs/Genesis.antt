@@ -3,7 +3,6 @@
 use Rattle.std.specs.Prelude.{ℕ, ◌*◌, ◌/◌, Bool, true, false, ◌&&◌, List, [], ◌∷◌, length, eqb}
 use Rattle.wire.specs.Bytes.{part, word, alike}
 use Rattle.wire.specs.Items.{items, first_of, has_part, key_of}
-use Rattle.wire.specs.declared.Found.{Found}
 use Rattle.wire.specs.declared.Found.TheVariants.{At, Nothing}
 use Rattle.config.specs.Members.{members_of}
 

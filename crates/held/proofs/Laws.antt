@@ -1,8 +1,8 @@
 -- The bytes of the commit table and of the state, read as the definitions have them. Assumes nothing.
 use mathlib.Core.Path.{◌≡◌, refl, sym, ap, ◌∙◌}
 use mathlib.Core.Bool.{Bool, true, false, not, ◌&&◌, ◌||◌}
-use mathlib.Core.List.{List, [], ◌∷◌, ◌++◌, map, append-nil}
-use Prim.Native.Nat.{ℕ, zero, suc, ◌+◌, ◌-◌, ◌*◌, ◌/◌, ◌≤◌, ◌<◌, max, suc-le-suc}
+use mathlib.Core.List.{List, [], ◌∷◌, map, append-nil}
+use Prim.Native.Nat.{ℕ, zero, suc, ◌+◌, ◌-◌, ◌*◌, ◌/◌, ◌≤◌, ◌<◌, max}
 use native.Mathlib.Nat.{le_of_suc-le-suc, not-suc-le-zero}
 use native.Mathlib.Numerals.{add-one}
 use native.Mathlib.Omega.{arith}
@@ -10,12 +10,12 @@ use borrow.Author.Tests.{eq-eqb, ne_eqb, lt-ltb, le-ltb, le-leb, lt-leb, ltb-tru
 use lib.Dec.{eqb, ltb, leb}
 use lib.ListN.{length, get_or, take, drop, length-map, drop_of_length-le, length-drop}
 use lib.Seq.{drop-cons, take_at}
-use Rattle.wire.specs.Bytes.{part, word, alike}
+use Rattle.wire.specs.Bytes.{part, alike}
 use Rattle.wire.specs.Items.{chunks, items, item_in, flat, has_part, first_of, all_of}
 use Rattle.wire.specs.declared.Found.{Found}
 use Rattle.wire.specs.declared.Found.TheVariants.{At, Nothing}
-use Rattle.wire.proofs.Laws.{length_part, true-not-false, alike-true, alike_refl, part-all}
-use Rattle.wire.proofs.Lists.{Sized, one, length-chunks, chunks-sized, chunks-flat, flat-chunks, length-flat, length-items, items-sized, item-is, all-at, first_found, first-nothing}
+use Rattle.wire.proofs.Laws.{length_part, part-all}
+use Rattle.wire.proofs.Lists.{Sized, one, length-chunks, chunks-sized, chunks-flat, flat-chunks, length-flat, length-items, items-sized, all-at}
 use Rattle.table.specs.Rows.{count_of, shaped, rows_of, places, round_of, has_round_part}
 use Rattle.table.proofs.Laws.{is-long, few-rows, row_is, row_fits, row-length, rows_are}
 use Rattle.room.specs.Numbers.{rounds_of}

@@ -1,26 +1,25 @@
 -- A certificate put in the table: its row's bytes, and the table then. Assumes nothing.
 use mathlib.Core.Path.{◌≡◌, refl, sym, ap, ◌∙◌}
-use mathlib.Core.Bool.{Bool, true, false, not, ◌&&◌, ◌||◌}
+use mathlib.Core.Bool.{Bool, true, false, ◌&&◌, ◌||◌}
 use mathlib.Core.List.{List, [], ◌∷◌, ◌++◌, map, append_assoc, append-nil}
 use mathlib.Core.Logic.{◌⊎◌, inl, inr}
 use Prim.Native.Nat.{ℕ, zero, suc, ◌+◌, ◌-◌, ◌*◌, ◌/◌, ◌^◌, ◌≤◌, ◌<◌}
-use native.Mathlib.Nat.{le_of_suc-le-suc, not-suc-le-zero, zero-add}
+use native.Mathlib.Nat.{le_of_suc-le-suc, not-suc-le-zero}
 use native.Mathlib.Omega.{arith}
-use borrow.Author.Tests.{eq-eqb, ne_eqb, lt-ltb, le-ltb, le-leb, ltb-true, ltb-false, eqb-true, eqb-false}
+use borrow.Author.Tests.{ne_eqb, lt-ltb, le-ltb, le-leb, ltb-true, ltb-false}
 use lib.Dec.{eqb, ltb, leb}
-use lib.ListN.{length, get_or, set, take, drop, replicate, length-append, length-replicate, length-map, length-set, length-take, length-drop, drop_of_length-le}
-use lib.Seq.{take_at, drop_at, take_all, drop-append-add, get_or-append-add}
+use lib.ListN.{length, get_or, set, take, drop, replicate, length-append, length-replicate, length-take, length-drop, drop_of_length-le}
+use lib.Seq.{drop_at, get_or-append-add}
 use Rattle.wire.specs.Bytes.{part, word, bytes, splice}
 use Rattle.wire.specs.Items.{chunks, items, flat, all_of}
 use Rattle.wire.proofs.Laws.{length-bytes, word_bytes, true-not-false, less-or-not, put-mid}
-use Rattle.wire.proofs.Lists.{Sized, length-flat, length-items, items-sized, flat_append, splice-next, part-seam, chunks-flat, flat-chunks}
+use Rattle.wire.proofs.Lists.{Sized, length-flat, length-items, items-sized, splice-next, part-seam, chunks-flat, flat-chunks}
 use Rattle.table.specs.Rows.{count_of, places, shaped, rows_of, round_of, with_row, appended}
-use Rattle.table.proofs.Laws.{After, append-after, set_after, append-exit, set-exit, few-rows, row_fits, append-room}
-use Rattle.config.proofs.Laws.{both}
-use Rattle.consensus.specs.Table.{Cert, pair_place, cert_at, insert, same_pair, holds_pair}
+use Rattle.table.proofs.Laws.{append-after, set_after, append-exit, set-exit, row_fits, append-room}
+use Rattle.consensus.specs.Table.{Cert, pair_place, insert, same_pair, holds_pair}
 use Rattle.consensus.proofs.Leading.{pair-most}
 use Rattle.held.specs.Rows.{origin_in, parent_count, digest_in, parents_in, cert_of, held_of, lawful_row, held_shape, head_of, row_of, cert_with, table_with}
-use Rattle.held.proofs.Laws.{length-held, Lawful, lawful}
+use Rattle.held.proofs.Laws.{length-held, lawful}
 
 -- ---- the row's bytes
 

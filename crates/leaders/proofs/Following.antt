@@ -11,7 +11,7 @@ use lib.ListN.{length, get_or, set, take, drop, length-set, drop_of_length-le}
 use lib.Seq.{drop-cons, take-suc, take-suc-set, drop-set-lt, take_all}
 use Rattle.table.specs.Rows.{count_of}
 use Rattle.config.proofs.Laws.{both}
-use Rattle.consensus.specs.Table.{Cert, cert_at, none, of_round}
+use Rattle.consensus.specs.Table.{Cert, cert_at, of_round}
 use Rattle.consensus.specs.Leaders.{followed, named}
 use Rattle.held.specs.Rows.{held_of, held_shape}
 use Rattle.held.proofs.Laws.{digest-length, held-step, lawful-shape, length-held}

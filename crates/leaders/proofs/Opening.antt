@@ -16,7 +16,6 @@ use Rattle.config.specs.Committee.{leader_place}
 use Rattle.room.specs.Numbers.{rounds_of}
 use Rattle.leaders.specs.Setup.{kind_of}
 use Rattle.leaders.specs.Taking.{Opener, Taken, leader_at, leader_in}
-use Rattle.leaders.specs.declared.decide.Decision.{Decision}
 use Rattle.leaders.specs.declared.decide.Decision.TheVariants.{Opens}
 
 opens-is : (d : ordering.Decision) → kind_of d ≡ Opens → (ls : List Cert) × (d ≡ opens ls)

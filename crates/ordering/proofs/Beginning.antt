@@ -26,7 +26,6 @@ use Rattle.ordering.specs.Answers.{count_of}
 use Rattle.ordering.specs.Start.{room_for, valid_start, start_answer, digests_of, genesis_rows, fresh_table, fresh_state, Started}
 use Rattle.ordering.specs.declared.answers.Answer.{Answer}
 use Rattle.ordering.specs.declared.answers.Answer.TheVariants.{Done, BadCommittee, BadShape}
-use Rattle.ordering.proofs.Examples.{starts, tables}
 use Rattle.ordering.proofs.Replies.{when-done, when-committee, when-shape}
 use Rattle.ordering.proofs.Zeros.{zeros, length-zeros, zeros-add, part-zeros, cleared}
 

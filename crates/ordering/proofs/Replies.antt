@@ -1,14 +1,13 @@
 -- The laws of `specs/Answers.antt`. Assumes nothing.
 use mathlib.Core.Path.{◌≡◌}
 use mathlib.Core.List.{List}
-use Prim.Native.Nat.{ℕ, ◌*◌, ◌/◌, ◌≤◌, ◌<◌, ◌^◌}
+use Prim.Native.Nat.{ℕ, ◌*◌, ◌≤◌, ◌<◌, ◌^◌}
 use native.Mathlib.Omega.{arith}
 use lib.ListN.{length}
 use Rattle.table.specs.Rows.{places}
 use Rattle.ordering.specs.Answers.{count_of, code_of, when_done}
 use Rattle.ordering.specs.declared.answers.Answer.{Answer}
 use Rattle.ordering.specs.declared.answers.Answer.TheVariants.{Done, BadCommittee, BadShape, UnknownAuthority, NoRoom, HistoryMissing, DigestClash}
-use Rattle.ordering.proofs.Examples.{codes}
 
 -- ---- the numbers
 module _ (a : Answer) where

@@ -3,7 +3,7 @@
 use mathlib.Core.Path.{◌≡◌, refl}
 use mathlib.Core.Bool.{true, false}
 use mathlib.Core.List.{List, [], ◌∷◌, ◌++◌}
-use Prim.Native.Nat.{ℕ, ◌+◌}
+use Prim.Native.Nat.{ℕ}
 use lib.ListN.{replicate}
 use Rattle.wire.specs.Bytes.{part, alike, less, splice, word, bytes}
 use Rattle.wire.specs.Items.{chunks, items, flat, key_of, keys, ascends, ascends_from, first_of, has_part, sum_of, all_of}

@@ -2,7 +2,7 @@
 use mathlib.Core.Path.{◌≡◌, refl, sym, ◌∙◌}
 use mathlib.Core.Bool.{Bool, true, false, ◌&&◌}
 use mathlib.Core.List.{List, [], ◌∷◌, ◌++◌}
-use Prim.Native.Nat.{ℕ, ◌+◌, ◌-◌, ◌*◌, ◌/◌, ◌%◌, ◌≤◌, ◌<◌}
+use Prim.Native.Nat.{ℕ, ◌+◌, ◌*◌, ◌/◌, ◌%◌, ◌≤◌, ◌<◌}
 use native.Mathlib.Nat.{div-add-mod'}
 use native.Mathlib.Omega.{arith}
 use lib.Dec.{eqb, ltb, leb}
@@ -13,7 +13,6 @@ use Rattle.wire.specs.Items.{items, flat}
 use Rattle.wire.proofs.Laws.{part-all, length-bytes, true-not-false}
 use Rattle.wire.proofs.Lists.{length-items}
 use Rattle.proposer.specs.State.{zeros, round_in, parent_count, waiting_count, parents_in, waiting_in, payload_size, valid_state, due_header, next_round, advanced, added, digests_of}
-use Rattle.proposer.proofs.Examples.{states}
 use Rattle.proposer.proofs.Splices.{splice-join}
 use Rattle.proposer.proofs.Order.{flat_items}
 

@@ -1,7 +1,6 @@
 -- The definitions of `specs/Kept.antt` compute: of three rows of 5 bytes (round 4, a byte) those from round 7 on are kept. Assumes nothing.
 use mathlib.Core.Path.{◌≡◌, refl}
-use mathlib.Core.List.{List, [], ◌∷◌}
-use Prim.Native.Nat.{ℕ}
+use mathlib.Core.List.{[], ◌∷◌}
 use Rattle.wire.specs.Bytes.{part, word, bytes}
 use Rattle.wire.specs.Items.{chunks, items, keeps, flat}
 use Rattle.table.specs.Rows.{count_of, rows_of, past_of, packed, round_of}

@@ -1,20 +1,20 @@
 -- The laws of a loop that keeps some rows of a table, for any test. Assumes nothing.
-use mathlib.Core.Path.{◌≡◌, refl, sym, ap, ◌∙◌, subst}
+use mathlib.Core.Path.{◌≡◌, refl, sym, ap, ◌∙◌}
 use mathlib.Core.Bool.{Bool, true, false, not}
-use mathlib.Core.List.{List, [], ◌∷◌, ◌++◌, append_assoc, append-nil}
-use Prim.Native.Nat.{ℕ, zero, suc, ◌+◌, ◌-◌, ◌*◌, ◌≤◌, ◌<◌, ◌^◌}
+use mathlib.Core.List.{List, [], ◌∷◌, ◌++◌, append_assoc}
+use Prim.Native.Nat.{ℕ, ◌+◌, ◌-◌, ◌*◌, ◌≤◌, ◌<◌, ◌^◌}
 use native.Mathlib.Numerals.{add-one}
-use native.Mathlib.Nat.{zero-mul, suc-mul, mul-le-mul_left, mul-le-mul_right}
+use native.Mathlib.Nat.{zero-mul, mul-le-mul_left, mul-le-mul_right}
 use native.Mathlib.Omega.{arith}
-use lib.ListN.{length, get_or, take, drop, replicate, length-take, length-drop, length-append, take-append-drop, length-replicate}
-use lib.Seq.{take_all, drop-length, take-length, length-take-le, drop-cons, take-suc}
+use lib.ListN.{length, get_or, take, drop, replicate, length-drop, length-append, take-append-drop, length-replicate}
+use lib.Seq.{take_all, drop-length, length-take-le, drop-cons}
 use borrow.Author.Tests.{not-true, not-false}
 use Rattle.wire.specs.Bytes.{part, splice, bytes}
 use Rattle.wire.specs.Items.{item_in, flat, keeps}
 use Rattle.wire.proofs.Laws.{length-bytes, length-splice, splice-own}
-use Rattle.wire.proofs.Lists.{Sized, none, one, next-mul, gap-mul, below-mul, splice-seam, part-seam, sized-at, sized-take, keeps-append, keeps-sized, keeps_fewer, keeps-yes, keeps-no, length-flat, flat_append, flat-one}
+use Rattle.wire.proofs.Lists.{next-mul, gap-mul, below-mul, splice-seam, part-seam, sized-at, sized-take, keeps-sized, keeps_fewer, keeps-yes, keeps-no, length-flat, flat_append, flat-one}
 use Rattle.table.specs.Rows.{count_of, places, shaped, rows_of, past_of, packed}
-use Rattle.table.proofs.Laws.{IsTable, is-table, Holds, holds-packed, length-packed, After, after, length-past}
+use Rattle.table.proofs.Laws.{is-table, Holds, holds-packed, length-packed, After, after, length-past}
 use Rattle.sweep.specs.Kept.{went, kept, moved, counted, finished}
 
 -- ---- bytes: a row moved to the front of a gap

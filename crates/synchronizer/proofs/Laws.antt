@@ -2,17 +2,17 @@
 use mathlib.Core.Path.{◌≡◌, refl, sym, ap, ◌∙◌}
 use mathlib.Core.Bool.{Bool, true, false, not}
 use mathlib.Core.List.{List, []}
-use Prim.Native.Nat.{ℕ, ◌+◌, ◌-◌, ◌*◌, ◌/◌, ◌≤◌, ◌<◌}
+use Prim.Native.Nat.{ℕ, ◌+◌, ◌*◌, ◌/◌, ◌≤◌, ◌<◌}
 use native.Mathlib.Omega.{arith}
 use lib.Dec.{eqb, ltb}
-use lib.ListN.{length, get_or}
-use borrow.Author.Tests.{not-true, not-false, eq-eqb, ne_eqb}
+use lib.ListN.{length}
+use borrow.Author.Tests.{not-true, not-false}
 use Rattle.wire.specs.Bytes.{part, alike, splice}
 use Rattle.wire.specs.Items.{items, item_in, first_of, has_part, keeps, all_of, flat}
 use Rattle.wire.specs.declared.Found.{Found}
 use Rattle.wire.specs.declared.Found.TheVariants.{At, Nothing}
 use Rattle.wire.proofs.Laws.{part-all, length_part}
-use Rattle.wire.proofs.Lists.{found-is, found-fits, Testing, testing-start, testing-item, testing-no, testing-yes, testing-done}
+use Rattle.wire.proofs.Lists.{found-is, found-fits, Testing, testing-start, testing-no, testing-yes, testing-done}
 use Rattle.table.specs.Rows.{count_of, places, shaped, rows_of}
 use Rattle.table.proofs.Laws.{found-row-is}
 use Rattle.genesis.specs.Genesis.{record_digest, records_of}
@@ -22,7 +22,6 @@ use Rattle.synchronizer.specs.Picked.{Picked}
 use Rattle.synchronizer.specs.Parents.{record_in, parent_of, lacks, missing_parents, has, delivered}
 use Rattle.synchronizer.specs.Payload.{pairs_of, unpaired, missing_payload}
 use Rattle.synchronizer.specs.Known.{learning}
-use Rattle.synchronizer.specs.declared.known.Learning.{Learning}
 use Rattle.synchronizer.specs.declared.known.Learning.TheVariants.{Known, New, Full}
 use Rattle.synchronizer.proofs.Picking.{Picking, picking-start, picking-done}
 

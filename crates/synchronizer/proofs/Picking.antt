@@ -2,17 +2,16 @@
 use mathlib.Core.Path.{◌≡◌, refl, sym, ap, ◌∙◌}
 use mathlib.Core.Bool.{Bool, true, false, not}
 use mathlib.Core.List.{List, [], ◌∷◌, ◌++◌, append_assoc}
-use Prim.Native.Nat.{ℕ, zero, suc, ◌+◌, ◌-◌, ◌*◌, ◌≤◌, ◌<◌}
-use native.Mathlib.Numerals.{add-one}
+use Prim.Native.Nat.{ℕ, ◌+◌, ◌-◌, ◌*◌, ◌≤◌, ◌<◌}
 use native.Mathlib.Nat.{zero-add, mul-le-mul_left}
 use native.Mathlib.Omega.{arith}
-use lib.ListN.{length, get_or, take, drop, length-append, length-take, length-drop, take-append-drop}
+use lib.ListN.{length, get_or, take, drop, length-append, length-drop, take-append-drop}
 use lib.Seq.{take_all, length-take-le, drop-drop}
 use borrow.Author.Tests.{not-true, not-false}
 use Rattle.wire.specs.Bytes.{splice}
 use Rattle.wire.specs.Items.{items, item_in, flat, keeps}
 use Rattle.wire.proofs.Laws.{length-splice}
-use Rattle.wire.proofs.Lists.{Sized, sized-take, splice-seam, next-mul, below-mul, length-flat, flat_append, flat-one, keeps-sized, keeps_fewer, keeps-yes, keeps-no, items-sized, item-is, item-fits, item-length, length-items}
+use Rattle.wire.proofs.Lists.{sized-take, splice-seam, below-mul, length-flat, flat_append, flat-one, keeps-sized, keeps-yes, keeps-no, items-sized, item-is, item-fits, item-length, length-items}
 use Rattle.synchronizer.specs.Picked.{Picked, Put, put_count, put_buffer}
 
 -- one item put, or not

@@ -1,17 +1,16 @@
 -- The laws of `specs/Answers.antt`. Assumes nothing.
 use mathlib.Core.Path.{◌≡◌, refl, sym, ap, ◌∙◌}
 use mathlib.Core.Bool.{Bool, true, false, not, ◌&&◌}
-use mathlib.Core.List.{List, []}
-use Prim.Native.Nat.{ℕ, ◌+◌, ◌*◌, ◌%◌, ◌≤◌, ◌<◌}
+use mathlib.Core.List.{List}
+use Prim.Native.Nat.{ℕ, ◌*◌, ◌%◌, ◌≤◌, ◌<◌}
 use native.Mathlib.Omega.{arith}
-use lib.Dec.{eqb, ltb}
+use lib.Dec.{ltb}
 use lib.ListN.{length}
 use borrow.Author.Tests.{eq-eqb, ne_eqb, not-true, not-false, ltb-true}
-use Rattle.wire.specs.Bytes.{part, word, splice, alike}
-use Rattle.wire.specs.Items.{flat, keeps, first_of, has_part}
+use Rattle.wire.specs.Bytes.{part, word, alike}
+use Rattle.wire.specs.Items.{first_of, has_part}
 use Rattle.wire.specs.declared.Found.{Found}
 use Rattle.wire.specs.declared.Found.TheVariants.{At, Nothing}
-use Rattle.wire.proofs.Laws.{true-or-false, true-not-false}
 use Rattle.wire.proofs.Lists.{keeps_fewer, length-items}
 use Rattle.table.specs.Rows.{count_of, places, shaped, rows_of, appended}
 use Rattle.config.specs.Committee.{valid_members}
@@ -22,7 +21,7 @@ use Rattle.synchronizer.specs.Picked.{Picked}
 use Rattle.synchronizer.specs.Parents.{lacks, missing_parents, delivered}
 use Rattle.synchronizer.specs.Payload.{pairs_of, unpaired, missing_payload}
 use Rattle.synchronizer.specs.Known.{learning}
-use Rattle.synchronizer.specs.Answers.{code_of, shaped_as, out_as, lookable, missing_of, parents_answer, ParentsAnswer, deliver_answer, payload_shape, payload_answer, PayloadAnswer, learnable, learnt, learn_answer, learnt_table, LearnAnswer}
+use Rattle.synchronizer.specs.Answers.{code_of, shaped_as, out_as, lookable, missing_of, parents_answer, ParentsAnswer, deliver_answer, payload_shape, payload_answer, PayloadAnswer, learnable, learn_answer, learnt_table, LearnAnswer}
 use Rattle.synchronizer.specs.declared.known.Learning.{Learning}
 use Rattle.synchronizer.specs.declared.known.Learning.TheVariants.{Known, New, Full}
 use Rattle.synchronizer.specs.declared.answers.Answer.{Answer}

@@ -1,5 +1,5 @@
 -- What each question is answered, and what it leaves in the lent slices, for every input: document 01, 10, 11, then 12. Assumes nothing.
-use Rattle.std.specs.Prelude.{◌≡◌, Bool, true, false, ◌&&◌, not, List, [], ℕ, ◌+◌, ◌*◌, ◌%◌, eqb, length}
+use Rattle.std.specs.Prelude.{◌≡◌, Bool, true, false, ◌&&◌, not, List, ℕ, ◌+◌, ◌*◌, ◌%◌, eqb, length}
 use Rattle.wire.specs.Bytes.{splice}
 use Rattle.wire.specs.Items.{flat}
 use Rattle.table.specs.Rows.{shaped, rows_of, appended}

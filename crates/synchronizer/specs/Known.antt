@@ -1,7 +1,6 @@
 -- The known table: document 01, 'a known digest keeps its first record'. Assumes nothing.
-use Rattle.std.specs.Prelude.{Bool, true, false, List, ℕ, ltb}
+use Rattle.std.specs.Prelude.{true, false, List, ℕ, ltb}
 use Rattle.wire.specs.Items.{first_of, has_part}
-use Rattle.wire.specs.declared.Found.{Found}
 use Rattle.wire.specs.declared.Found.TheVariants.{At, Nothing}
 use Rattle.table.specs.Rows.{count_of, places, rows_of}
 use Rattle.genesis.specs.Genesis.{record_digest}

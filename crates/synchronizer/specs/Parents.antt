@@ -1,7 +1,6 @@
 -- Parents: document 01, 'synchronizer'. A certificate is known by its record: genesis' records, and the rows of the known table. Assumes nothing.
-use Rattle.std.specs.Prelude.{Bool, true, false, not, List, [], ℕ, eqb, length, get_or}
+use Rattle.std.specs.Prelude.{Bool, not, List, [], ℕ, eqb, length, get_or}
 use Rattle.wire.specs.Items.{first_of, has_part, keeps, all_of}
-use Rattle.wire.specs.declared.Found.{Found}
 use Rattle.wire.specs.declared.Found.TheVariants.{At, Nothing}
 
 -- the first record with this digest, or what is given

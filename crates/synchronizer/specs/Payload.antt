@@ -2,7 +2,6 @@
 use Rattle.std.specs.Prelude.{Bool, true, false, List, [], ℕ, ◌/◌, length}
 use Rattle.wire.specs.Bytes.{alike}
 use Rattle.wire.specs.Items.{items, first_of, has_part, keeps}
-use Rattle.wire.specs.declared.Found.{Found}
 use Rattle.wire.specs.declared.Found.TheVariants.{At, Nothing}
 use Rattle.messages.specs.Header.{author_of, payload_of}
 

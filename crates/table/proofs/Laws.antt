@@ -1,21 +1,20 @@
 -- The laws of `specs/Rows.antt`: a table is a list of rows. Assumes nothing.
-use mathlib.Core.Path.{◌≡◌, refl, sym, ap, ◌∙◌, subst}
+use mathlib.Core.Path.{◌≡◌, refl, sym, ap, ◌∙◌}
 use mathlib.Core.Bool.{Bool, true, false, not}
-use mathlib.Core.Logic.{⊎_elim, ◌⊎◌, inl, inr}
-use mathlib.Core.List.{List, [], ◌∷◌, ◌++◌, append_assoc, append-nil}
-use Prim.Native.Nat.{ℕ, zero, suc, ◌+◌, ◌-◌, ◌*◌, ◌/◌, ◌%◌, ◌≤◌, ◌<◌, ◌^◌}
-use native.Mathlib.Numerals.{add-one}
-use native.Mathlib.Nat.{zero-mul, suc-mul, add-mul, add-zero, zero-add, mul-le-mul_right, mul-le-mul_left, div-mul-le_self, div-le_self, div-add-mod'}
+use mathlib.Core.Logic.{⊎_elim}
+use mathlib.Core.List.{List, [], ◌∷◌, ◌++◌, append_assoc}
+use Prim.Native.Nat.{ℕ, suc, ◌+◌, ◌-◌, ◌*◌, ◌/◌, ◌%◌, ◌≤◌, ◌<◌, ◌^◌}
+use native.Mathlib.Nat.{mul-le-mul_right, mul-le-mul_left, div-add-mod'}
 use native.Mathlib.Omega.{arith}
 use lib.Dec.{eqb, ltb, leb}
-use lib.ListN.{length, get_or, set, take, drop, drop_of_length-le, length-take, length-drop, length-append, length-set, take-append-drop}
-use lib.Seq.{take_at, drop_at, length-take-le, drop-drop, drop-cons, set_split, split_at}
-use borrow.Author.Tests.{eq-eqb, ne_eqb, eqb-true, eqb-false, not-true, not-false, le-ltb, lt-ltb, ltb-true, ltb-false, leb-true, le-leb, lt-leb}
+use lib.ListN.{length, get_or, set, take, drop, length-drop, length-append, length-set, take-append-drop}
+use lib.Seq.{take_at, drop_at, length-take-le, drop-drop, set_split, split_at}
+use borrow.Author.Tests.{eq-eqb, ne_eqb, eqb-true, eqb-false, not-false, le-ltb, lt-ltb, ltb-true, ltb-false, leb-true, le-leb}
 use Rattle.wire.specs.Bytes.{part, splice, word, bytes}
 use Rattle.wire.specs.Items.{items, item_in, first_of, has_part, flat}
 use Rattle.wire.specs.declared.Found.{Found}
-use Rattle.wire.specs.declared.Found.TheVariants.{At, Nothing}
-use Rattle.wire.proofs.Laws.{length_part, true-or-false, true-not-false, length-bytes, word_bytes, length-splice}
+use Rattle.wire.specs.declared.Found.TheVariants.{At}
+use Rattle.wire.proofs.Laws.{true-or-false, true-not-false, length-bytes, word_bytes, length-splice}
 use Rattle.wire.proofs.Lists.{Sized, none, one, sized-at, sized-append, sized_set, sized-take, length-flat, flat_append, flat-one, chunks-flat, flat-chunks, next-mul, below-mul, splice-seam, part-seam, length-chunks, chunks-sized, found_below}
 use Rattle.table.specs.Rows.{count_of, places, shaped, rows_of, past_of, packed, appended, with_row, round_of, has_round_part}
 

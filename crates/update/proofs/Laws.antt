@@ -1,6 +1,6 @@
 -- Entries written, rounds raised, rows kept. Assumes nothing.
 use mathlib.Core.Path.{◌≡◌, refl, sym, ap, ◌∙◌}
-use mathlib.Core.Bool.{Bool, true, false, not}
+use mathlib.Core.Bool.{Bool, true, false}
 use mathlib.Core.List.{List, [], ◌∷◌, ◌++◌, map, append-nil, append_assoc}
 use Prim.Native.Nat.{ℕ, zero, suc, ◌+◌, ◌-◌, ◌*◌, ◌/◌, ◌^◌, ◌≤◌, ◌<◌, max}
 use native.Mathlib.Nat.{add-zero}
@@ -9,8 +9,8 @@ use native.Mathlib.Omega.{arith}
 use mathlib.Core.Logic.{◌⊎◌, inl, inr}
 use borrow.Author.Tests.{lt-ltb, le-ltb, lt-leb, le-leb}
 use lib.Dec.{ltb, leb}
-use lib.ListN.{length, get_or, set, take, drop, length-append, take-append-drop}
-use lib.Seq.{take-suc, ext_get_or, get_or-set_same, get_or-set_other}
+use lib.ListN.{length, get_or, set, take, length-append, take-append-drop}
+use lib.Seq.{take-suc}
 use Rattle.wire.specs.Bytes.{bytes, splice}
 use Rattle.wire.specs.Items.{flat, item_in, keeps, all_of}
 use Rattle.wire.proofs.Laws.{length-bytes, length-splice, less-or-not, true-not-false}
@@ -25,7 +25,7 @@ use Rattle.consensus.specs.Listing.{Fate, stays, goes, fate, raise, clear}
 use Rattle.consensus.proofs.ClearOnce.{raise_all}
 use Rattle.held.specs.Rows.{cert_of, origin_in, held_of, held_shape, lawful_row, lasts_of}
 use Rattle.held.proofs.Laws.{lawful-shape, origin-below, digest-length, lawful, lawful-row}
-use Rattle.update.specs.Update.{entry_of, entries_of, is_stays, stays_row, Below}
+use Rattle.update.specs.Update.{entry_of, entries_of, stays_row, Below}
 
 -- ---- an entry
 

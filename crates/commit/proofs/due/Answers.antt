@@ -1,5 +1,3 @@
-use native.Mathlib.Omega.{arith}
-use borrow.Author.Rules.{rules}
 use Rattle.commit.proofs.Turning.{due-at, marks-lent}
 use Rattle.held.proofs.Laws.{lawful-shape}
 use Rattle.table.proofs.Laws.{is-long}

@@ -1,6 +1,6 @@
 use native.Mathlib.Omega.{arith}
 use borrow.Author.Rules.{rules}
-use Rattle.commit.proofs.Lending.{Lends, lends-start, lends-fits, lends-high, lends-ready, lends-present, lends-above, lends-room, lends-sum, lends-next, lends-done}
+use Rattle.commit.proofs.Lending.{lends-start, lends-fits, lends-ready, lends-present, lends-above, lends-room, lends-sum, lends-next, lends-done}
 use Rattle.commit.proofs.serve.Goals as goal
 
 pub loop-left-init : goal.loop-left-init

@@ -1,6 +1,4 @@
-use native.Mathlib.Omega.{arith}
-use borrow.Author.Rules.{rules}
-use Rattle.commit.proofs.Lending.{Lends, lends-start, lends-fits, lends-high, lends-ready, lends-present, lends-above, lends-room, lends-sum, lends-next, lends-done}
+use Rattle.commit.proofs.Lending.{Lends}
 use Rattle.commit.proofs.serve.Given as goal
 
 abbrev pub invariant-loop-left : goal.invariant-loop-left

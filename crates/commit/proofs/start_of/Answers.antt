@@ -1,5 +1,3 @@
-use native.Mathlib.Omega.{arith}
-use borrow.Author.Rules.{rules}
 use Rattle.commit.proofs.Turning.{leader-low, leader-digest, start_is}
 use Rattle.held.proofs.Laws.{lawful-shape}
 use Rattle.commit.proofs.start_of.Goals as goal

@@ -1,5 +1,4 @@
 use native.Mathlib.Omega.{arith}
-use borrow.Author.Rules.{rules}
 use Rattle.commit.proofs.Turning.{due-room, turned}
 use Rattle.commit.proofs.turn.Goals as goal
 

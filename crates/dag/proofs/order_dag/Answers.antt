@@ -1,5 +1,3 @@
-use native.Mathlib.Omega.{arith}
-use borrow.Author.Rules.{rules}
 use Rattle.held.proofs.Laws.{lawful-shape}
 use Rattle.dag.proofs.Listed.{listed-fits, listed-low, ordered}
 use Rattle.dag.proofs.order_dag.Goals as goal

@@ -1,7 +1,4 @@
-use Prim.Native.Nat.{◌-◌}
-use Rattle.genesis.proofs.Laws.{Differing, differing-start, differing-no, differing-yes, differing-done}
-use native.Mathlib.Omega.{arith}
-use borrow.Author.Rules.{rules}
+use Rattle.genesis.proofs.Laws.{differing-start, differing-no, differing-yes, differing-done}
 use Rattle.genesis.proofs.all_different.Goals as goal
 
 pub loop-i-init : goal.loop-i-init

@@ -1,7 +1,4 @@
-use Prim.Native.Nat.{◌-◌}
-use Rattle.genesis.proofs.Laws.{Pairing, pairing-start, pairing-member, pairing-record, member-long, record-long, pairing-no, pairing-yes, pairing-done}
-use native.Mathlib.Omega.{arith}
-use borrow.Author.Rules.{rules}
+use Rattle.genesis.proofs.Laws.{pairing-start, pairing-member, pairing-record, member-long, record-long, pairing-no, pairing-yes, pairing-done}
 use Rattle.genesis.proofs.all_of.Goals as goal
 
 pub loop-i-init : goal.loop-i-init

@@ -1,8 +1,6 @@
 use Rattle.wire.specs.Bytes.{part}
 use Rattle.genesis.specs.Genesis.{record_digest}
 use mathlib.Core.Path.{refl}
-use native.Mathlib.Omega.{arith}
-use borrow.Author.Rules.{rules}
 use Rattle.genesis.proofs.digest.Goals as goal
 
 pub returns : goal.returns

@@ -1,6 +1,4 @@
 use Rattle.genesis.proofs.Laws.{other-round, round-0}
-use native.Mathlib.Omega.{arith}
-use borrow.Author.Rules.{rules}
 use Rattle.genesis.proofs.is_of.Goals as goal
 
 pub returns-then-read_u32-ne0 : goal.returns-then-read_u32-ne0

@@ -1,5 +1,4 @@
 use Rattle.genesis.proofs.Laws.{later-fits, later-record, digest-fits, later-is}
-use native.Mathlib.Omega.{arith}
 use borrow.Author.Rules.{rules}
 use Rattle.genesis.proofs.same_later.Goals as goal
 

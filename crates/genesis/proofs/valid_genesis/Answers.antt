@@ -1,6 +1,4 @@
 use Rattle.genesis.proofs.Laws.{wrong-length, not-paired, last-test}
-use native.Mathlib.Omega.{arith}
-use borrow.Author.Rules.{rules}
 use Rattle.genesis.proofs.valid_genesis.Goals as goal
 
 pub returns-then-genesis-n : goal.returns-then-genesis-n

@@ -1,5 +1,3 @@
-use native.Mathlib.Omega.{arith}
-use borrow.Author.Rules.{rules}
 use Rattle.room.proofs.Laws.{round-read}
 use Rattle.room.proofs.get_round.Goals as goal
 

@@ -1,4 +1,3 @@
-use native.Mathlib.Omega.{arith}
 use borrow.Author.Rules.{rules}
 use Rattle.room.proofs.Laws.{number_put}
 use Rattle.room.proofs.put.Goals as goal

@@ -1,4 +1,3 @@
-use native.Mathlib.Omega.{arith}
 use borrow.Author.Rules.{rules}
 use Rattle.room.proofs.Laws.{round-put}
 use Rattle.room.proofs.put_round.Goals as goal

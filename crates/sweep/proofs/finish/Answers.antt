@@ -1,9 +1,7 @@
 use Rattle.wire.proofs.Lists.{gap-mul}
 use Rattle.sweep.specs.Kept.{finished}
-use Prim.Native.Nat.{ℕ, ◌+◌, ◌-◌, ◌*◌, ◌≤◌, ◌<◌}
-use mathlib.Core.Path.{◌≡◌, refl, sym, ap, ◌∙◌}
+use mathlib.Core.Path.{refl, ◌∙◌}
 use native.Mathlib.Omega.{arith}
-use borrow.Author.Rules.{rules}
 use Rattle.sweep.proofs.finish.Goals as goal
 
 pub overflow_mul-m : goal.overflow_mul-m

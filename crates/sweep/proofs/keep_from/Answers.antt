@@ -1,8 +1,5 @@
-use Rattle.sweep.proofs.Laws.{Sweeping, sweeping-start, sweeping-fits, sweeping-reach, sweeping-big, sweeping-whole, sweeping-next, sweeping-kept, sweeping-went}
+use Rattle.sweep.proofs.Laws.{sweeping-start, sweeping-fits, sweeping-reach, sweeping-big, sweeping-whole, sweeping-next, sweeping-kept, sweeping-went}
 use Rattle.table.proofs.Laws.{is-long}
-use Rattle.sweep.specs.Kept.{from_round}
-use Prim.Native.Nat.{◌-◌}
-use native.Mathlib.Omega.{arith}
 use borrow.Author.Rules.{rules}
 use Rattle.sweep.proofs.keep_from.Goals as goal
 

@@ -1,7 +1,6 @@
 use Rattle.sweep.proofs.Laws.{moved-not, counted-not, moved-stands, moved_down, counted-one}
 use native.Mathlib.Nat.{mul-le-mul_right, le-mul_of_pos_right}
 use native.Mathlib.Omega.{arith}
-use borrow.Author.Rules.{rules}
 use Rattle.sweep.proofs.move_row.Goals as goal
 
 pub returns-then-not-keep : goal.returns-then-not-keep

@@ -1,4 +1,3 @@
-use native.Mathlib.Omega.{arith}
 use borrow.Author.Rules.{rules}
 use Rattle.accept.proofs.Committing.{commit-ready, commit-low, commit-high, commit-opened, commit-fits, commit-done}
 use Rattle.accept.proofs.act.commit.Goals as goal

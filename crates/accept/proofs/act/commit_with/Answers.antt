@@ -1,5 +1,3 @@
-use native.Mathlib.Omega.{arith}
-use borrow.Author.Rules.{rules}
 use Rattle.accept.proofs.Committing.{part-size, part-zero}
 use Rattle.accept.proofs.act.commit_with.Goals as goal
 

@@ -1,5 +1,4 @@
 use native.Mathlib.Omega.{arith}
-use borrow.Author.Rules.{rules}
 use Rattle.held.proofs.Laws.{lawful-shape}
 use Rattle.held.specs.Rows.{cert_with}
 use Rattle.accept.proofs.Holding.{index-fits, u-long, u-few, u-walk, u-sort, u-link, u-list, u-used, u-opening, u-rooms, u-commits}

@@ -1,5 +1,3 @@
-use native.Mathlib.Omega.{arith}
-use borrow.Author.Rules.{rules}
 use Rattle.accept.proofs.Committing.{all-zero}
 use Rattle.accept.proofs.act.zero.Goals as goal
 

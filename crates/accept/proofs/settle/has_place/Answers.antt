@@ -1,5 +1,3 @@
-use native.Mathlib.Omega.{arith}
-use borrow.Author.Rules.{rules}
 use Rattle.accept.proofs.Settling.{place-there, place-free}
 use Rattle.table.proofs.Laws.{is-long}
 use Rattle.accept.proofs.settle.has_place.Goals as goal

@@ -1,4 +1,3 @@
-use native.Mathlib.Omega.{arith}
 use borrow.Author.Rules.{rules}
 use Rattle.accept.proofs.Settling.{course-clash, course-full, course-on}
 use Rattle.held.proofs.Laws.{lawful-shape}

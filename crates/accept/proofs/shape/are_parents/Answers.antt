@@ -1,5 +1,3 @@
-use native.Mathlib.Omega.{arith}
-use borrow.Author.Rules.{rules}
 use Rattle.accept.proofs.Shaping.{parents-over, parents-many, parents-rise}
 use Rattle.accept.proofs.shape.are_parents.Goals as goal
 

@@ -1,5 +1,3 @@
-use native.Mathlib.Omega.{arith}
-use borrow.Author.Rules.{rules}
 use Rattle.accept.proofs.Shaping.{places-over, places-enough}
 use Rattle.accept.proofs.shape.has_places.Goals as goal
 

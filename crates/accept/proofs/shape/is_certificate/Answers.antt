@@ -1,5 +1,3 @@
-use native.Mathlib.Omega.{arith}
-use borrow.Author.Rules.{rules}
 use Rattle.accept.proofs.Shaping.{certificate-origin, certificate-digest, certificate-0, certificate-high, certificate-parents}
 use Rattle.accept.proofs.shape.is_certificate.Goals as goal
 

@@ -1,4 +1,3 @@
-use native.Mathlib.Omega.{arith}
 use borrow.Author.Rules.{rules}
 use Rattle.accept.proofs.Shaping.{lent-state, lent-table, lent-long, lent-list, lent-walk, lent-sort, lent-link}
 use Rattle.accept.proofs.shape.is_lent.Goals as goal

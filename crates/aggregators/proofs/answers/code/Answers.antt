@@ -1,6 +1,4 @@
 use Rattle.aggregators.proofs.Voting.{code-done, code-committee, code_shape, code-reuse, code-room}
-use native.Mathlib.Omega.{arith}
-use borrow.Author.Rules.{rules}
 use Rattle.aggregators.proofs.answers.code.Goals as goal
 
 pub returns-in-Done : goal.returns-in-Done

@@ -1,6 +1,4 @@
 use Rattle.aggregators.proofs.Certifying.{shape-counts, shape-low, shape-high, shape-origin, shape-digest, shape-out}
-use native.Mathlib.Omega.{arith}
-use borrow.Author.Rules.{rules}
 use Rattle.aggregators.proofs.certificates.certificate_shape.Goals as goal
 
 pub returns-then-not-counts_shape : goal.returns-then-not-counts_shape

@@ -1,7 +1,6 @@
 use Rattle.config.proofs.Replies.{is-valid}
 use Rattle.aggregators.proofs.Certifying.{in-shape, in_row, in-new, cert-committee, cert-shape, cert-counted, cert-full, cert-row, cert-new}
 use native.Mathlib.Omega.{arith}
-use borrow.Author.Rules.{rules}
 use Rattle.aggregators.proofs.certificates.count_certificate.Goals as goal
 
 pub returns-then-not-valid_members : goal.returns-then-not-valid_members

@@ -1,5 +1,4 @@
 use Rattle.aggregators.proofs.Certifying.{new-long, new-open, new-counted}
-use native.Mathlib.Omega.{arith}
 use borrow.Author.Rules.{rules}
 use Rattle.aggregators.proofs.certificates.count_in_new.Goals as goal
 

@@ -1,6 +1,5 @@
 use Rattle.aggregators.proofs.Giving.{lent_fits}
 use Rattle.aggregators.proofs.Certifying.{item-long, item-open, row-counted}
-use native.Mathlib.Omega.{arith}
 use borrow.Author.Rules.{rules}
 use Rattle.aggregators.proofs.certificates.count_in_row.Goals as goal
 

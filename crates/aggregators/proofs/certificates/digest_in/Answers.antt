@@ -1,6 +1,5 @@
 use Rattle.wire.specs.Bytes.{part}
 use Rattle.aggregators.specs.Weight.{digest_of}
-use native.Mathlib.Omega.{arith}
 use borrow.Author.Rules.{rules}
 use Rattle.aggregators.proofs.certificates.digest_in.Goals as goal
 

@@ -1,7 +1,4 @@
-use Prim.Native.Nat.{◌-◌}
-use Rattle.aggregators.proofs.Giving.{Writing, writing_start, writing-fits, writing-low, writing-reach, writing-room, writing-next, writing-done}
-use native.Mathlib.Omega.{arith}
-use borrow.Author.Rules.{rules}
+use Rattle.aggregators.proofs.Giving.{writing_start, writing-fits, writing-reach, writing-room, writing-next, writing-done}
 use Rattle.aggregators.proofs.certificates.put_digests.Goals as goal
 
 pub loop-i-init : goal.loop-i-init

@@ -1,7 +1,5 @@
 use Prim.Native.Nat.{◌-◌}
-use Rattle.aggregators.proofs.Giving.{Writing, writing_start, writing-fits, writing-low, writing-reach, writing-room, writing-next, writing-done}
-use native.Mathlib.Omega.{arith}
-use borrow.Author.Rules.{rules}
+use Rattle.aggregators.proofs.Giving.{Writing}
 use Rattle.aggregators.proofs.certificates.put_digests.Given as goal
 
 abbrev pub invariant-loop-i : goal.invariant-loop-i

@@ -1,6 +1,5 @@
 use Rattle.aggregators.proofs.Giving.{lent_fits, lent_length, lent-count, lent_same, lent_back}
 use native.Mathlib.Omega.{arith}
-use borrow.Author.Rules.{rules}
 use Rattle.aggregators.proofs.certificates.put_in_row.Goals as goal
 
 pub overflow_mul-at : goal.overflow_mul-at

@@ -1,8 +1,6 @@
 use mathlib.Core.Path.{◌∙◌}
 use lib.ListN.{length-set}
 use Rattle.aggregators.proofs.Giving.{pair_put}
-use native.Mathlib.Omega.{arith}
-use borrow.Author.Rules.{rules}
 use Rattle.aggregators.proofs.certificates.put_pair.Goals as goal
 
 pub shape_of-row : goal.shape_of-row

@@ -1,11 +1,6 @@
-use Prim.Native.Nat.{◌-◌}
-use mathlib.Core.Path.{◌≡◌}
-use Rattle.wire.proofs.Lists.{Testing, testing-start, testing-fits, testing-reach, testing-yes, testing-no, testing-done}
-use Rattle.table.specs.Rows.{count_of}
+use Rattle.wire.proofs.Lists.{testing-start, testing-fits, testing-reach, testing-yes, testing-no, testing-done}
 use Rattle.table.proofs.Laws.{is-long, rows_fit}
-use Rattle.aggregators.specs.Certificates.{few_pairs}
 use Rattle.aggregators.proofs.Counting.{all-rows}
-use native.Mathlib.Omega.{arith}
 use borrow.Author.Rules.{rules}
 use Rattle.aggregators.proofs.rounds.all_few.Goals as goal
 

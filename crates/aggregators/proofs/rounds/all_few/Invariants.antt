@@ -1,12 +1,8 @@
 use Prim.Native.Nat.{◌-◌}
 use mathlib.Core.Path.{◌≡◌}
-use Rattle.wire.proofs.Lists.{Testing, testing-start, testing-fits, testing-reach, testing-yes, testing-no, testing-done}
+use Rattle.wire.proofs.Lists.{Testing}
 use Rattle.table.specs.Rows.{count_of}
-use Rattle.table.proofs.Laws.{is-long, rows_fit}
 use Rattle.aggregators.specs.Certificates.{few_pairs}
-use Rattle.aggregators.proofs.Counting.{all-rows}
-use native.Mathlib.Omega.{arith}
-use borrow.Author.Rules.{rules}
 use Rattle.aggregators.proofs.rounds.all_few.Given as goal
 
 abbrev pub invariant-loop-i : goal.invariant-loop-i

@@ -1,7 +1,5 @@
 use Rattle.table.proofs.Laws.{is-shaped}
 use Rattle.aggregators.proofs.Counting.{counts-no-table, counts-last}
-use native.Mathlib.Omega.{arith}
-use borrow.Author.Rules.{rules}
 use Rattle.aggregators.proofs.rounds.counts_shape.Goals as goal
 
 pub returns-then-not-shape : goal.returns-then-not-shape

@@ -1,10 +1,5 @@
-use Prim.Native.Nat.{◌-◌}
-use mathlib.Core.Path.{◌≡◌}
-use Rattle.wire.proofs.Lists.{Seek, seek-start, seek-fits, seek-reach, seek_hit, seek-miss, seek-done}
-use Rattle.table.specs.Rows.{count_of}
+use Rattle.wire.proofs.Lists.{seek-start, seek-fits, seek-reach, seek_hit, seek-miss, seek-done}
 use Rattle.table.proofs.Laws.{is-long, rows_fit, rows-first}
-use Rattle.aggregators.specs.Certificates.{of_round}
-use native.Mathlib.Omega.{arith}
 use borrow.Author.Rules.{rules}
 use Rattle.aggregators.proofs.rounds.find_round.Goals as goal
 

@@ -1,11 +1,8 @@
 use Prim.Native.Nat.{◌-◌}
 use mathlib.Core.Path.{◌≡◌}
-use Rattle.wire.proofs.Lists.{Seek, seek-start, seek-fits, seek-reach, seek_hit, seek-miss, seek-done}
+use Rattle.wire.proofs.Lists.{Seek}
 use Rattle.table.specs.Rows.{count_of}
-use Rattle.table.proofs.Laws.{is-long, rows_fit, rows-first}
 use Rattle.aggregators.specs.Certificates.{of_round}
-use native.Mathlib.Omega.{arith}
-use borrow.Author.Rules.{rules}
 use Rattle.aggregators.proofs.rounds.find_round.Given as goal
 
 abbrev pub invariant-loop-i : goal.invariant-loop-i

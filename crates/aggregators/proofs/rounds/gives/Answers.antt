@@ -1,5 +1,4 @@
-use Rattle.aggregators.proofs.Counting.{pairs-fit, gives-from, gives-small, gives_none, gives-some}
-use native.Mathlib.Omega.{arith}
+use Rattle.aggregators.proofs.Counting.{gives-from, gives-small, gives_none, gives-some}
 use borrow.Author.Rules.{rules}
 use Rattle.aggregators.proofs.rounds.gives.Goals as goal
 

@@ -1,5 +1,4 @@
 use Rattle.aggregators.proofs.Counting.{row-pairs, origin-is}
-use native.Mathlib.Omega.{arith}
 use borrow.Author.Rules.{rules}
 use Rattle.aggregators.proofs.rounds.has_origin.Goals as goal
 

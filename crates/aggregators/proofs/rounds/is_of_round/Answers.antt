@@ -1,6 +1,4 @@
 use Rattle.aggregators.proofs.Counting.{round_is}
-use native.Mathlib.Omega.{arith}
-use borrow.Author.Rules.{rules}
 use Rattle.aggregators.proofs.rounds.is_of_round.Goals as goal
 
 pub returns : goal.returns

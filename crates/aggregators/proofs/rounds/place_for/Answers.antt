@@ -1,5 +1,4 @@
 use Rattle.aggregators.proofs.Counting.{counts-table, row-long, place-new, place-no-row, place-fits, place-length, place-few, place-counted, place-full, place-row}
-use native.Mathlib.Omega.{arith}
 use borrow.Author.Rules.{rules}
 use Rattle.aggregators.proofs.rounds.place_for.Goals as goal
 

@@ -1,6 +1,4 @@
-use Prim.Native.Nat.{◌-◌}
-use Rattle.aggregators.proofs.Weights.{Weighing, weighing-start, weighing-fits, weighing-reach, weighing-key, weighing-next, weighing-done}
-use native.Mathlib.Omega.{arith}
+use Rattle.aggregators.proofs.Weights.{weighing-start, weighing-fits, weighing-reach, weighing-key, weighing-next, weighing-done}
 use borrow.Author.Rules.{rules}
 use Rattle.aggregators.proofs.tally.count_keys.Goals as goal
 

@@ -1,7 +1,5 @@
 use Prim.Native.Nat.{◌-◌}
-use Rattle.aggregators.proofs.Weights.{Weighing, weighing-start, weighing-fits, weighing-reach, weighing-key, weighing-next, weighing-done}
-use native.Mathlib.Omega.{arith}
-use borrow.Author.Rules.{rules}
+use Rattle.aggregators.proofs.Weights.{Weighing}
 use Rattle.aggregators.proofs.tally.count_keys.Given as goal
 
 abbrev pub invariant-loop-i : goal.invariant-loop-i

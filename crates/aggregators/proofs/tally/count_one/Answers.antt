@@ -1,6 +1,4 @@
 use Rattle.aggregators.proofs.Weights.{count-full, count-on}
-use native.Mathlib.Omega.{arith}
-use borrow.Author.Rules.{rules}
 use Rattle.aggregators.proofs.tally.count_one.Goals as goal
 
 pub returns-then-quorum-weight : goal.returns-then-quorum-weight

@@ -1,6 +1,4 @@
 use Rattle.aggregators.proofs.Weights.{key_in, key-out}
-use native.Mathlib.Omega.{arith}
-use borrow.Author.Rules.{rules}
 use Rattle.aggregators.proofs.tally.has_key.Goals as goal
 
 pub returns-in_default : goal.returns-in_default

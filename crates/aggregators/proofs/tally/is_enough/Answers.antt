@@ -1,6 +1,4 @@
 use Rattle.aggregators.proofs.Weights.{enough-is}
-use native.Mathlib.Omega.{arith}
-use borrow.Author.Rules.{rules}
 use Rattle.aggregators.proofs.tally.is_enough.Goals as goal
 
 pub returns : goal.returns

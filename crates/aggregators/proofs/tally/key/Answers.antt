@@ -1,6 +1,5 @@
 use Rattle.wire.specs.Bytes.{part}
 use Rattle.wire.specs.Items.{key_of}
-use native.Mathlib.Omega.{arith}
 use borrow.Author.Rules.{rules}
 use Rattle.aggregators.proofs.tally.key.Goals as goal
 

@@ -1,5 +1,4 @@
 use Rattle.aggregators.proofs.Voting.{voters-long, voters-fit, voted-is}
-use native.Mathlib.Omega.{arith}
 use borrow.Author.Rules.{rules}
 use Rattle.aggregators.proofs.votes.has_voted.Goals as goal
 

@@ -1,6 +1,5 @@
 use Rattle.aggregators.proofs.Voting.{voters-long, voter-fits, voter-put}
 use native.Mathlib.Omega.{arith}
-use borrow.Author.Rules.{rules}
 use Rattle.aggregators.proofs.votes.put_voter.Goals as goal
 
 pub voter_count-n-requires : goal.voter_count-n-requires

@@ -1,5 +1,4 @@
 use Rattle.aggregators.proofs.Voting.{votes-small, vote-reaches}
-use native.Mathlib.Omega.{arith}
 use borrow.Author.Rules.{rules}
 use Rattle.aggregators.proofs.votes.reaches.Goals as goal
 

@@ -1,6 +1,4 @@
 use Rattle.aggregators.proofs.Voting.{shape-length, shape-count}
-use native.Mathlib.Omega.{arith}
-use borrow.Author.Rules.{rules}
 use Rattle.aggregators.proofs.votes.voters_shape.Goals as goal
 
 pub returns-then-voters-ne-VOTERS : goal.returns-then-voters-ne-VOTERS

@@ -1,5 +1,4 @@
 use Rattle.aggregators.proofs.Voting.{voters-long, voters-fit, votes-weight-is}
-use native.Mathlib.Omega.{arith}
 use borrow.Author.Rules.{rules}
 use Rattle.aggregators.proofs.votes.votes_weight.Goals as goal
 

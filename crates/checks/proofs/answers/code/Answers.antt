@@ -1,6 +1,4 @@
 use Rattle.checks.proofs.Laws.{code-done, code-10, code-11, code-1, code-2, code-3, code-4, code-5, code-7}
-use native.Mathlib.Omega.{arith}
-use borrow.Author.Rules.{rules}
 use Rattle.checks.proofs.answers.code.Goals as goal
 
 pub returns-in-Done : goal.returns-in-Done

@@ -1,6 +1,4 @@
 use Rattle.checks.proofs.Laws.{is_true, certificate-10, certificate-11, certificate-11-id, certificate-11-signature, certificate-11-batch, certificate-found}
-use native.Mathlib.Omega.{arith}
-use borrow.Author.Rules.{rules}
 use Rattle.checks.proofs.certificate.certificate_check.Goals as goal
 
 pub returns-then-not-valid_members : goal.returns-then-not-valid_members

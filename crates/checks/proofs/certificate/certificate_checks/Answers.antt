@@ -1,6 +1,5 @@
 use Rattle.messages.proofs.Laws.{certificate-length}
 use Rattle.checks.proofs.Laws.{certificate-headed-by, header_refused, header-passed}
-use native.Mathlib.Omega.{arith}
 use borrow.Author.Rules.{rules}
 use Rattle.checks.proofs.certificate.certificate_checks.Goals as goal
 

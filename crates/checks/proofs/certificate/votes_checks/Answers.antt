@@ -1,6 +1,4 @@
 use Rattle.checks.proofs.Votes.{votes-reused, votes-unknown, votes-few, votes-unsigned, votes-good}
-use native.Mathlib.Omega.{arith}
-use borrow.Author.Rules.{rules}
 use Rattle.checks.proofs.certificate.votes_checks.Goals as goal
 
 pub returns-then-w-quorum_threshold : goal.returns-then-w-quorum_threshold

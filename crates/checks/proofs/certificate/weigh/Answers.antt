@@ -1,10 +1,5 @@
-use Prim.Native.Nat.{◌-◌, ◌*◌, ◌≤◌}
-use mathlib.Core.Path.{◌≡◌}
-use Rattle.config.specs.Members.{members_of}
-use Rattle.messages.specs.Certificate.{vote_count}
 use Rattle.messages.proofs.Laws.{certificate-length}
-use Rattle.checks.proofs.Votes.{Weighing, weighing-start, weighing-fits, weighing-before, weighing-key, weighing-whole, weighing-reused, weighing-unknown, weighing-next, weighing-done}
-use native.Mathlib.Omega.{arith}
+use Rattle.checks.proofs.Votes.{weighing-start, weighing-fits, weighing-before, weighing-key, weighing-whole, weighing-reused, weighing-unknown, weighing-next, weighing-done}
 use borrow.Author.Rules.{rules}
 use Rattle.checks.proofs.certificate.weigh.Goals as goal
 

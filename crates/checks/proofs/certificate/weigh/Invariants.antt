@@ -2,10 +2,7 @@ use Prim.Native.Nat.{◌-◌, ◌*◌, ◌≤◌}
 use mathlib.Core.Path.{◌≡◌}
 use Rattle.config.specs.Members.{members_of}
 use Rattle.messages.specs.Certificate.{vote_count}
-use Rattle.messages.proofs.Laws.{certificate-length}
-use Rattle.checks.proofs.Votes.{Weighing, weighing-start, weighing-fits, weighing-before, weighing-key, weighing-whole, weighing-reused, weighing-unknown, weighing-next, weighing-done}
-use native.Mathlib.Omega.{arith}
-use borrow.Author.Rules.{rules}
+use Rattle.checks.proofs.Votes.{Weighing}
 use Rattle.checks.proofs.certificate.weigh.Given as goal
 
 abbrev pub invariant-loop-i : goal.invariant-loop-i

@@ -1,11 +1,6 @@
-use Prim.Native.Nat.{◌-◌}
-use mathlib.Core.Path.{◌≡◌}
-use Rattle.wire.proofs.Lists.{Testing, testing-fits, testing-reach, testing-no, testing-yes, testing-done}
-use Rattle.messages.specs.Header.{payload_count}
+use Rattle.wire.proofs.Lists.{testing-fits, testing-reach, testing-no, testing-yes, testing-done}
 use Rattle.messages.proofs.Laws.{header-length}
-use Rattle.checks.specs.Header.{works_for}
 use Rattle.checks.proofs.Laws.{workers-start, workers-are}
-use native.Mathlib.Omega.{arith}
 use borrow.Author.Rules.{rules}
 use Rattle.checks.proofs.header.has_workers.Goals as goal
 

@@ -1,6 +1,4 @@
 use Rattle.checks.proofs.Laws.{is_true, header-10, header-11, header-11-id, header-11-signature, header-found}
-use native.Mathlib.Omega.{arith}
-use borrow.Author.Rules.{rules}
 use Rattle.checks.proofs.header.header_check.Goals as goal
 
 pub returns-then-not-valid_members : goal.returns-then-not-valid_members

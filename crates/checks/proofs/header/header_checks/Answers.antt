@@ -1,7 +1,5 @@
 use Rattle.messages.proofs.Laws.{header-length}
 use Rattle.checks.proofs.Laws.{author-32, id_wrong, author-unknown, workers-unknown, signature-wrong, header-good}
-use native.Mathlib.Omega.{arith}
-use borrow.Author.Rules.{rules}
 use Rattle.checks.proofs.header.header_checks.Goals as goal
 
 pub returns-then-not-id_ok : goal.returns-then-not-id_ok

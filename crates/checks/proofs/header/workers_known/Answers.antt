@@ -1,6 +1,5 @@
 use Rattle.messages.proofs.Laws.{header-length}
 use Rattle.checks.proofs.Laws.{author-32, workers-stranger, author-fits, author-reach, author-few, workers-member}
-use native.Mathlib.Omega.{arith}
 use borrow.Author.Rules.{rules}
 use Rattle.checks.proofs.header.workers_known.Goals as goal
 

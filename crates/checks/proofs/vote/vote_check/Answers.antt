@@ -1,6 +1,4 @@
 use Rattle.checks.proofs.Laws.{is_true, vote-10, vote-11, vote-11-signature, vote-found}
-use native.Mathlib.Omega.{arith}
-use borrow.Author.Rules.{rules}
 use Rattle.checks.proofs.vote.vote_check.Goals as goal
 
 pub returns-then-not-valid_members : goal.returns-then-not-valid_members

@@ -1,7 +1,5 @@
 use Rattle.messages.proofs.Laws.{vote-length}
 use Rattle.checks.proofs.Laws.{voter-32, vote-unknown, vote-unsigned, vote-good}
-use native.Mathlib.Omega.{arith}
-use borrow.Author.Rules.{rules}
 use Rattle.checks.proofs.vote.vote_checks.Goals as goal
 
 pub author-requires : goal.author-requires

@@ -1,6 +1,4 @@
 use Rattle.config.proofs.Replies.{code-done, code-committee, code_shape}
-use native.Mathlib.Omega.{arith}
-use borrow.Author.Rules.{rules}
 use Rattle.config.proofs.answers.code.Goals as goal
 
 pub returns-in-Done : goal.returns-in-Done

@@ -2,7 +2,6 @@ use Rattle.config.proofs.Replies.{is-valid, bad-members, good-members}
 use Rattle.config.proofs.Laws.{valid}
 use Rattle.config.specs.Answers.{committee_answer}
 use native.Mathlib.Omega.{arith}
-use borrow.Author.Rules.{rules}
 use Rattle.config.proofs.answers.committee.Goals as goal
 
 pub returns-then-not-valid_members : goal.returns-then-not-valid_members

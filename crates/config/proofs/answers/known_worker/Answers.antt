@@ -1,6 +1,4 @@
 use Rattle.config.proofs.Replies.{no_member, worker-fits, worker-reach, worker-few, worker-yes, worker-no}
-use native.Mathlib.Omega.{arith}
-use borrow.Author.Rules.{rules}
 use Rattle.config.proofs.answers.known_worker.Goals as goal
 
 pub returns-in_default : goal.returns-in_default

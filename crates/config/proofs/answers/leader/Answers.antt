@@ -3,7 +3,6 @@ use Rattle.config.proofs.Replies.{is-valid, bad-members, good-members, bad-shape
 use Rattle.config.proofs.Laws.{valid-some}
 use Rattle.config.specs.Answers.{leader_answer}
 use native.Mathlib.Omega.{arith}
-use borrow.Author.Rules.{rules}
 use Rattle.config.proofs.answers.leader.Goals as goal
 
 pub returns-then-not-valid_members : goal.returns-then-not-valid_members

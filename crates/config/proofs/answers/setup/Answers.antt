@@ -1,6 +1,5 @@
 use Rattle.config.proofs.Replies.{setup-bad, setup-good, setup-long, setup-few}
 use native.Mathlib.Omega.{arith}
-use borrow.Author.Rules.{rules}
 use Rattle.config.proofs.answers.setup.Goals as goal
 
 pub returns-then-not-valid_setup : goal.returns-then-not-valid_setup

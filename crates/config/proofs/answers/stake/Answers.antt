@@ -1,8 +1,6 @@
-use Rattle.config.proofs.Replies.{is-valid, bad-members, good-members, bad-shape, good-shape, done}
+use Rattle.config.proofs.Replies.{bad-members, good-members, bad-shape, good-shape, done}
 use borrow.Author.Tests.{eq-eqb, ne_eqb}
 use Rattle.config.specs.Answers.{stake_answer}
-use native.Mathlib.Omega.{arith}
-use borrow.Author.Rules.{rules}
 use Rattle.config.proofs.answers.stake.Goals as goal
 
 pub returns-then-not-valid_members : goal.returns-then-not-valid_members

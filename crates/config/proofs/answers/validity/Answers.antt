@@ -1,7 +1,5 @@
 use Rattle.config.proofs.Replies.{is-valid, bad-members, good-members, done}
 use Rattle.config.specs.Answers.{validity_answer}
-use native.Mathlib.Omega.{arith}
-use borrow.Author.Rules.{rules}
 use Rattle.config.proofs.answers.validity.Goals as goal
 
 pub returns-then-not-valid_members : goal.returns-then-not-valid_members

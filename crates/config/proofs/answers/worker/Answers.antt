@@ -1,6 +1,5 @@
 use Rattle.config.proofs.Replies.{is-valid, bad-members, good-members, bad-shape, good-shape, done, worker-key, worker-id, worker-both}
 use Rattle.config.specs.Answers.{worker_answer}
-use native.Mathlib.Omega.{arith}
 use borrow.Author.Rules.{rules}
 use Rattle.config.proofs.answers.worker.Goals as goal
 

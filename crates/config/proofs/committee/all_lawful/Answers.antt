@@ -1,10 +1,5 @@
-use mathlib.Core.Path.{◌≡◌}
-use Prim.Native.Nat.{◌-◌, ◌/◌}
-use lib.ListN.{length}
-use Rattle.wire.proofs.Lists.{Testing, testing-start, testing-fits, testing-reach, testing-yes, testing-no, testing-done}
-use Rattle.config.specs.Members.{lawful}
+use Rattle.wire.proofs.Lists.{testing-start, testing-fits, testing-reach, testing-yes, testing-no, testing-done}
 use Rattle.config.proofs.Laws.{members-fit, lawful-is}
-use native.Mathlib.Omega.{arith}
 use borrow.Author.Rules.{rules}
 use Rattle.config.proofs.committee.all_lawful.Goals as goal
 

@@ -1,11 +1,8 @@
 use mathlib.Core.Path.{◌≡◌}
 use Prim.Native.Nat.{◌-◌, ◌/◌}
 use lib.ListN.{length}
-use Rattle.wire.proofs.Lists.{Testing, testing-start, testing-fits, testing-reach, testing-yes, testing-no, testing-done}
+use Rattle.wire.proofs.Lists.{Testing}
 use Rattle.config.specs.Members.{lawful}
-use Rattle.config.proofs.Laws.{members-fit, lawful-is}
-use native.Mathlib.Omega.{arith}
-use borrow.Author.Rules.{rules}
 use Rattle.config.proofs.committee.all_lawful.Given as goal
 
 abbrev pub invariant-loop-i : goal.invariant-loop-i

@@ -1,5 +1,4 @@
 use Rattle.config.specs.Committee.{leader_place}
-use native.Mathlib.Omega.{arith}
 use borrow.Author.Rules.{rules}
 use Rattle.config.proofs.committee.leader_place.Goals as goal
 

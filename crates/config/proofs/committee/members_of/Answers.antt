@@ -2,7 +2,6 @@ use Prim.Native.Nat.{◌-◌}
 use lib.ListN.{length, drop, length-drop}
 use lib.Seq.{take_all}
 use native.Mathlib.Omega.{arith}
-use borrow.Author.Rules.{rules}
 use Rattle.config.proofs.committee.members_of.Goals as goal
 
 pub returns : goal.returns

@@ -1,6 +1,5 @@
 use Rattle.config.proofs.Laws.{valid-size, valid-weight, quorum-is}
 use native.Mathlib.Omega.{arith}
-use borrow.Author.Rules.{rules}
 use Rattle.config.proofs.committee.quorum_threshold.Goals as goal
 
 pub total_stake-requires : goal.total_stake-requires

@@ -1,6 +1,4 @@
 use Rattle.config.proofs.Laws.{stake-none, stake-some}
-use native.Mathlib.Omega.{arith}
-use borrow.Author.Rules.{rules}
 use Rattle.config.proofs.committee.stake.Goals as goal
 
 pub returns-in_default : goal.returns-in_default

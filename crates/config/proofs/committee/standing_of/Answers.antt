@@ -1,6 +1,4 @@
 use Rattle.config.proofs.Laws.{stranger, member-fits, member-reach, member}
-use native.Mathlib.Omega.{arith}
-use borrow.Author.Rules.{rules}
 use Rattle.config.proofs.committee.standing_of.Goals as goal
 
 pub returns-in_default : goal.returns-in_default

@@ -1,10 +1,5 @@
-use mathlib.Core.Path.{◌≡◌}
-use Prim.Native.Nat.{◌-◌, ◌*◌, ◌/◌, ◌≤◌}
-use lib.ListN.{length}
-use Rattle.wire.proofs.Lists.{Adding, adding-start, adding-fits, adding-reach, adding-next, adding-done}
-use Rattle.config.specs.Members.{stake_in}
+use Rattle.wire.proofs.Lists.{adding-start, adding-fits, adding-reach, adding-next, adding-done}
 use Rattle.config.proofs.Laws.{members-fit, total-is}
-use native.Mathlib.Omega.{arith}
 use borrow.Author.Rules.{rules}
 use Rattle.config.proofs.committee.total_stake.Goals as goal
 

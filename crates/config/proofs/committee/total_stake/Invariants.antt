@@ -1,11 +1,8 @@
 use mathlib.Core.Path.{◌≡◌}
 use Prim.Native.Nat.{◌-◌, ◌*◌, ◌/◌, ◌≤◌}
 use lib.ListN.{length}
-use Rattle.wire.proofs.Lists.{Adding, adding-start, adding-fits, adding-reach, adding-next, adding-done}
+use Rattle.wire.proofs.Lists.{Adding}
 use Rattle.config.specs.Members.{stake_in}
-use Rattle.config.proofs.Laws.{members-fit, total-is}
-use native.Mathlib.Omega.{arith}
-use borrow.Author.Rules.{rules}
 use Rattle.config.proofs.committee.total_stake.Given as goal
 
 abbrev pub invariant-loop-i : goal.invariant-loop-i

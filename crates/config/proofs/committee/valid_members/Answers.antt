@@ -1,5 +1,4 @@
 use Rattle.config.proofs.Laws.{ragged, nobody, many, unordered, unlawful, weighed, small}
-use native.Mathlib.Omega.{arith}
 use borrow.Author.Rules.{rules}
 use Rattle.config.proofs.committee.valid_members.Goals as goal
 

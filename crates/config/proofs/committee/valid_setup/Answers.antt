@@ -1,6 +1,4 @@
 use Rattle.config.proofs.Laws.{setup-short, setup-deep, setup-last}
-use native.Mathlib.Omega.{arith}
-use borrow.Author.Rules.{rules}
 use Rattle.config.proofs.committee.valid_setup.Goals as goal
 
 pub returns-then-setup-lt8 : goal.returns-then-setup-lt8

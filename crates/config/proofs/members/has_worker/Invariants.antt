@@ -1,10 +1,7 @@
 use mathlib.Core.Path.{◌≡◌}
 use Prim.Native.Nat.{◌-◌}
-use Rattle.wire.proofs.Lists.{Seek, seek-fits, seek-reach}
+use Rattle.wire.proofs.Lists.{Seek}
 use Rattle.config.specs.Members.{worker_count, is_worker}
-use Rattle.config.proofs.Laws.{worker-start, worker-none, worker-found, worker-next}
-use native.Mathlib.Omega.{arith}
-use borrow.Author.Rules.{rules}
 use Rattle.config.proofs.members.has_worker.Given as goal
 
 abbrev pub invariant-loop-i : goal.invariant-loop-i

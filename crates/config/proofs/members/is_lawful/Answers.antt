@@ -1,6 +1,4 @@
 use Rattle.config.proofs.Laws.{lawful-poor, lawful-last}
-use native.Mathlib.Omega.{arith}
-use borrow.Author.Rules.{rules}
 use Rattle.config.proofs.members.is_lawful.Goals as goal
 
 pub returns-then-stake_in-lt1 : goal.returns-then-stake_in-lt1

@@ -1,5 +1,4 @@
 use Rattle.config.specs.Members.{stake_in}
-use native.Mathlib.Omega.{arith}
 use borrow.Author.Rules.{rules}
 use Rattle.config.proofs.members.stake_in.Goals as goal
 

@@ -1,7 +1,6 @@
 use mathlib.Core.Path.{refl}
 use Rattle.config.specs.Members.{worker_count}
 use native.Mathlib.Omega.{arith}
-use borrow.Author.Rules.{rules}
 use Rattle.config.proofs.members.worker_count.Goals as goal
 
 pub overflow_cast-result : goal.overflow_cast-result

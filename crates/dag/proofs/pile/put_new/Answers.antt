@@ -1,5 +1,4 @@
 use native.Mathlib.Omega.{arith}
-use borrow.Author.Rules.{rules}
 use Rattle.dag.proofs.Piling.{put-seen, put-fits, put-new}
 use Rattle.dag.proofs.pile.put_new.Goals as goal
 

@@ -1,8 +1,6 @@
-use native.Mathlib.Omega.{arith}
 use borrow.Author.Rules.{rules}
 use Rattle.held.proofs.Laws.{lawful-shape}
-use Prim.Native.Nat.{◌-◌}
-use Rattle.dag.proofs.Piling.{Putting, putting-start, putting-done, putting-next, one-back}
+use Rattle.dag.proofs.Piling.{putting-start, putting-done, putting-next, one-back}
 use Rattle.dag.proofs.pile.put_parents.Goals as goal
 
 pub round_below-round-requires : goal.round_below-round-requires

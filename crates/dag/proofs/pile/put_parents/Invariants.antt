@@ -1,8 +1,5 @@
-use native.Mathlib.Omega.{arith}
-use borrow.Author.Rules.{rules}
-use Rattle.held.proofs.Laws.{lawful-shape}
 use Prim.Native.Nat.{◌-◌}
-use Rattle.dag.proofs.Piling.{Putting, putting-start, putting-done, putting-next, one-back}
+use Rattle.dag.proofs.Piling.{Putting}
 use Rattle.dag.proofs.pile.put_parents.Given as goal
 
 abbrev pub invariant-loop-k : goal.invariant-loop-k

@@ -1,10 +1,7 @@
-use native.Mathlib.Omega.{arith}
-use borrow.Author.Rules.{rules}
-use Rattle.held.proofs.Laws.{lawful-shape}
 use Prim.Native.Nat.{◌+◌, ◌-◌}
 use Rattle.table.specs.Rows.{count_of}
 use Rattle.consensus.proofs.Marks.{ones}
-use Rattle.dag.proofs.Going.{Going, going_start, going_done, going-fits, going-room, going-sound, going-below, going_less, going_next}
+use Rattle.dag.proofs.Going.{Going}
 use Rattle.dag.proofs.walk.follow.Given as goal
 
 abbrev pub invariant-loop-h : goal.invariant-loop-h

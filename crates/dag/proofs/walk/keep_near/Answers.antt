@@ -1,5 +1,3 @@
-use native.Mathlib.Omega.{arith}
-use borrow.Author.Rules.{rules}
 use Rattle.dag.proofs.Going.{near-deep, near-kept}
 use Rattle.dag.proofs.walk.keep_near.Goals as goal
 

@@ -1,5 +1,3 @@
-use native.Mathlib.Omega.{arith}
-use borrow.Author.Rules.{rules}
 use Rattle.dag.proofs.Going.{start-walked}
 use Rattle.dag.proofs.walk.walk.Goals as goal
 

@@ -1,5 +1,3 @@
-use native.Mathlib.Omega.{arith}
-use borrow.Author.Rules.{rules}
 use Rattle.held.proofs.Putting.{filled}
 use Rattle.held.proofs.insert.fill.Goals as goal
 

@@ -1,4 +1,3 @@
-use native.Mathlib.Omega.{arith}
 use borrow.Author.Rules.{rules}
 use Rattle.held.proofs.Putting.{lent_length, lent_same, lent_back}
 use Rattle.held.proofs.insert.fill_at.Goals as goal

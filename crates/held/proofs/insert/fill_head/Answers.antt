@@ -1,5 +1,3 @@
-use native.Mathlib.Omega.{arith}
-use borrow.Author.Rules.{rules}
 use Rattle.held.proofs.Putting.{head-filled}
 use Rattle.held.proofs.insert.fill_head.Goals as goal
 

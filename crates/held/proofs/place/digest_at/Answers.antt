@@ -1,5 +1,3 @@
-use native.Mathlib.Omega.{arith}
-use borrow.Author.Rules.{rules}
 use Rattle.held.proofs.Laws.{place-fits, place-length, digest-is}
 use Rattle.held.proofs.place.digest_at.Goals as goal
 

@@ -1,12 +1,7 @@
-use native.Mathlib.Omega.{arith}
-use borrow.Author.Rules.{rules}
-use Rattle.held.proofs.Laws.{place_found, place_none}
 use Prim.Native.Nat.{◌-◌}
 use mathlib.Core.Path.{◌≡◌}
-use Rattle.wire.proofs.Lists.{Seek, seek-start, seek-fits, seek-reach, seek_hit, seek-miss, seek-done}
+use Rattle.wire.proofs.Lists.{Seek}
 use Rattle.table.specs.Rows.{count_of, has_round_part}
-use Rattle.table.proofs.Laws.{is-long, rows_fit}
-use Rattle.held.proofs.Laws.{digest-fits}
 use Rattle.held.proofs.place.find.Given as goal
 
 abbrev pub invariant-loop-i : goal.invariant-loop-i

@@ -1,7 +1,5 @@
-use native.Mathlib.Omega.{arith}
 use borrow.Author.Rules.{rules}
-use Rattle.held.proofs.Laws.{Rounds, rounds-start, rounds-done, rounds-below, rounds-hit, rounds-miss}
-use Prim.Native.Nat.{◌-◌}
+use Rattle.held.proofs.Laws.{rounds-start, rounds-done, rounds-below, rounds-hit, rounds-miss}
 use Rattle.table.proofs.Laws.{is-long}
 use Rattle.held.proofs.place.has_round.Goals as goal
 

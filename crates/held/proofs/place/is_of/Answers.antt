@@ -1,5 +1,3 @@
-use native.Mathlib.Omega.{arith}
-use borrow.Author.Rules.{rules}
 use Rattle.held.proofs.Laws.{other-origin, this-origin}
 use Rattle.held.proofs.place.is_of.Goals as goal
 

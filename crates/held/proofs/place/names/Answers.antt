@@ -1,5 +1,3 @@
-use native.Mathlib.Omega.{arith}
-use borrow.Author.Rules.{rules}
 use Rattle.held.proofs.Laws.{names-yes, names-no}
 use Rattle.held.proofs.place.names.Goals as goal
 

@@ -1,5 +1,3 @@
-use native.Mathlib.Omega.{arith}
-use borrow.Author.Rules.{rules}
 use Rattle.held.proofs.Laws.{place-fits, place-length, parents-is, few-parents, lawful-shape}
 use Rattle.held.proofs.place.parents_at.Goals as goal
 

@@ -1,7 +1,5 @@
-use native.Mathlib.Omega.{arith}
 use borrow.Author.Rules.{rules}
-use Rattle.held.proofs.Laws.{Pairing, pairing-start, pairing-done, pairing-below, pairing-hit, pairing-miss}
-use Prim.Native.Nat.{◌-◌}
+use Rattle.held.proofs.Laws.{pairing-start, pairing-done, pairing-below, pairing-hit, pairing-miss}
 use Rattle.table.proofs.Laws.{is-long}
 use Rattle.held.proofs.place.place_of.Goals as goal
 

@@ -1,8 +1,5 @@
-use native.Mathlib.Omega.{arith}
-use borrow.Author.Rules.{rules}
-use Rattle.held.proofs.Laws.{Pairing, pairing-start, pairing-done, pairing-below, pairing-hit, pairing-miss}
+use Rattle.held.proofs.Laws.{Pairing}
 use Prim.Native.Nat.{◌-◌}
-use Rattle.table.proofs.Laws.{is-long}
 use Rattle.held.proofs.place.place_of.Given as goal
 
 abbrev pub invariant-loop-i : goal.invariant-loop-i

@@ -1,5 +1,3 @@
-use native.Mathlib.Omega.{arith}
-use borrow.Author.Rules.{rules}
 use Rattle.held.specs.Rows.{digest_in}
 use Rattle.wire.specs.Bytes.{part}
 use mathlib.Core.Path.{refl}

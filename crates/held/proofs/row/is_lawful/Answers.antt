@@ -1,5 +1,3 @@
-use native.Mathlib.Omega.{arith}
-use borrow.Author.Rules.{rules}
 use Rattle.held.proofs.Laws.{lawful-stranger, lawful-many, lawful-later, lawful-0}
 use Rattle.held.proofs.row.is_lawful.Goals as goal
 

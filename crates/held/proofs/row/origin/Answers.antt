@@ -1,5 +1,4 @@
 use native.Mathlib.Omega.{arith}
-use borrow.Author.Rules.{rules}
 use Rattle.held.specs.Rows.{origin_in}
 use mathlib.Core.Path.{refl}
 use Rattle.held.proofs.row.origin.Goals as goal

@@ -1,5 +1,4 @@
 use native.Mathlib.Omega.{arith}
-use borrow.Author.Rules.{rules}
 use Rattle.held.specs.Rows.{parent_count}
 use mathlib.Core.Path.{refl}
 use Rattle.held.proofs.row.parent_count.Goals as goal

@@ -1,5 +1,3 @@
-use native.Mathlib.Omega.{arith}
-use borrow.Author.Rules.{rules}
 use Rattle.held.proofs.Laws.{parents-part}
 use Rattle.held.proofs.row.parents.Goals as goal
 

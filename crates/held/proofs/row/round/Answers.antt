@@ -1,4 +1,3 @@
-use native.Mathlib.Omega.{arith}
 use borrow.Author.Rules.{rules}
 use Rattle.table.specs.Rows.{round_of}
 use Rattle.held.proofs.row.round.Goals as goal

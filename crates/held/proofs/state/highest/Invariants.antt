@@ -1,6 +1,4 @@
-use native.Mathlib.Omega.{arith}
-use borrow.Author.Rules.{rules}
-use Rattle.held.proofs.Laws.{Topping, topping-start, topping-done, topping-fits, topping-next}
+use Rattle.held.proofs.Laws.{Topping}
 use Prim.Native.Nat.{◌-◌}
 use Rattle.held.proofs.state.highest.Given as goal
 

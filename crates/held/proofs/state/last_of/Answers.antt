@@ -1,5 +1,3 @@
-use native.Mathlib.Omega.{arith}
-use borrow.Author.Rules.{rules}
 use Rattle.held.proofs.Laws.{last-is}
 use Rattle.held.proofs.state.last_of.Goals as goal
 

@@ -1,11 +1,7 @@
-use native.Mathlib.Omega.{arith}
-use borrow.Author.Rules.{rules}
-use Rattle.held.proofs.Laws.{rows-lawful}
 use Prim.Native.Nat.{◌-◌}
 use mathlib.Core.Path.{◌≡◌}
-use Rattle.wire.proofs.Lists.{Testing, testing-start, testing-fits, testing-item, testing-no, testing-yes, testing-done}
+use Rattle.wire.proofs.Lists.{Testing}
 use Rattle.table.specs.Rows.{count_of}
-use Rattle.table.proofs.Laws.{is-long, rows_fit}
 use Rattle.held.specs.Rows.{lawful_row}
 use Rattle.held.proofs.whole.all_lawful.Given as goal
 

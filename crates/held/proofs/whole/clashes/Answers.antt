@@ -1,8 +1,5 @@
-use native.Mathlib.Omega.{arith}
 use borrow.Author.Rules.{rules}
-use Rattle.held.proofs.Laws.{Clashing, clashing-start, clashing-done, clashing-below, clashing-hit, clashing-miss}
-use Prim.Native.Nat.{◌-◌}
-use mathlib.Core.List.{[]}
+use Rattle.held.proofs.Laws.{clashing-start, clashing-done, clashing-below, clashing-hit, clashing-miss}
 use Rattle.table.proofs.Laws.{is-long}
 use Rattle.held.proofs.whole.clashes.Goals as goal
 

@@ -1,9 +1,6 @@
-use native.Mathlib.Omega.{arith}
-use borrow.Author.Rules.{rules}
-use Rattle.held.proofs.Laws.{Clashing, clashing-start, clashing-done, clashing-below, clashing-hit, clashing-miss}
+use Rattle.held.proofs.Laws.{Clashing}
 use Prim.Native.Nat.{◌-◌}
 use mathlib.Core.List.{[]}
-use Rattle.table.proofs.Laws.{is-long}
 use Rattle.held.proofs.whole.clashes.Given as goal
 
 abbrev pub invariant-loop-i : goal.invariant-loop-i

@@ -1,4 +1,3 @@
-use native.Mathlib.Omega.{arith}
 use borrow.Author.Rules.{rules}
 use Rattle.held.proofs.Laws.{digest-reach, clash-other, clash-same}
 use Rattle.held.proofs.whole.clashes_at.Goals as goal

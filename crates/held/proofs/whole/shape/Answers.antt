@@ -1,4 +1,3 @@
-use native.Mathlib.Omega.{arith}
 use borrow.Author.Rules.{rules}
 use Rattle.held.proofs.Laws.{shape-not, shape-yes, shape-long, shape-few, shape-rows}
 use Rattle.held.proofs.whole.shape.Goals as goal

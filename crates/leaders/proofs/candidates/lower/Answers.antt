@@ -1,5 +1,3 @@
-use native.Mathlib.Omega.{arith}
-use borrow.Author.Rules.{rules}
 use Rattle.leaders.proofs.Scanning.{only-second, only-first, first-lower, second-lower}
 use Rattle.leaders.proofs.candidates.lower.Goals as goal
 

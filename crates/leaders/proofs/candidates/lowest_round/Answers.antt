@@ -1,9 +1,6 @@
-use native.Mathlib.Omega.{arith}
 use borrow.Author.Rules.{rules}
-use Prim.Native.Nat.{◌-◌}
-use Rattle.leaders.specs.Setup.{agreed_of}
 use Rattle.leaders.proofs.Agreeing.{held-long}
-use Rattle.leaders.proofs.Scanning.{Lowering, lowering-start, lowering-done, lowering-below, lowering-next}
+use Rattle.leaders.proofs.Scanning.{lowering-start, lowering-done, lowering-below, lowering-next}
 use Rattle.leaders.proofs.candidates.lowest_round.Goals as goal
 
 pub count-count-requires : goal.count-count-requires

@@ -1,9 +1,6 @@
-use native.Mathlib.Omega.{arith}
-use borrow.Author.Rules.{rules}
 use Prim.Native.Nat.{◌-◌}
 use Rattle.leaders.specs.Setup.{agreed_of}
-use Rattle.leaders.proofs.Agreeing.{held-long}
-use Rattle.leaders.proofs.Scanning.{Rising, rising-start, rising-done, rising-below, rising-next}
+use Rattle.leaders.proofs.Scanning.{Rising}
 use Rattle.leaders.proofs.candidates.next_round.Given as goal
 
 abbrev pub invariant-loop-i : goal.invariant-loop-i

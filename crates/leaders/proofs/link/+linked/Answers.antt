@@ -1,6 +1,6 @@
 use borrow.Author.Rules.{rules}
 use Rattle.held.proofs.Laws.{lawful-shape}
-use Rattle.leaders.proofs.Walking.{linked-here, linked-lower, walk_up, walk-low, walk-falls, walk-whole, follow-size}
+use Rattle.leaders.proofs.Walking.{linked-here, linked-lower, walk-low, walk-falls, walk-whole, follow-size}
 use Rattle.leaders.proofs.link.+linked.Goals as goal
 
 pub has_digest-requires-clause-table_value : goal.has_digest-requires-clause-table_value

@@ -1,8 +1,5 @@
-use native.Mathlib.Omega.{arith}
-use borrow.Author.Rules.{rules}
 use Prim.Native.Nat.{◌-◌}
-use Rattle.leaders.proofs.Agreeing.{held-long}
-use Rattle.leaders.proofs.Following.{Marking, marking-start, marking-below, marking-fits, marking-next, marking-done}
+use Rattle.leaders.proofs.Following.{Marking}
 use Rattle.leaders.proofs.link.follow.Given as goal
 
 abbrev pub invariant-loop-i : goal.invariant-loop-i

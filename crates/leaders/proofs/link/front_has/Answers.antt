@@ -1,4 +1,3 @@
-use native.Mathlib.Omega.{arith}
 use borrow.Author.Rules.{rules}
 use Rattle.held.proofs.Laws.{digest-reach}
 use Rattle.leaders.proofs.Linking.{has-not, has-digest-is}

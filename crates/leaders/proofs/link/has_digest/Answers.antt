@@ -1,8 +1,5 @@
-use native.Mathlib.Omega.{arith}
 use borrow.Author.Rules.{rules}
-use Prim.Native.Nat.{◌-◌}
-use Rattle.consensus.specs.Leaders.{has_digest}
-use Rattle.leaders.proofs.Linking.{Looking, has-start, has-none, looking-below, has-hit, looking-miss}
+use Rattle.leaders.proofs.Linking.{has-start, has-none, looking-below, has-hit, looking-miss}
 use Rattle.leaders.proofs.link.has_digest.Goals as goal
 
 pub loop-i-init : goal.loop-i-init

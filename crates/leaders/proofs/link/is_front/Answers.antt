@@ -1,5 +1,3 @@
-use native.Mathlib.Omega.{arith}
-use borrow.Author.Rules.{rules}
 use Rattle.leaders.proofs.Linking.{front-unmarked, front-marked}
 use Rattle.leaders.proofs.link.is_front.Goals as goal
 

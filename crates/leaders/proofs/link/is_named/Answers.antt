@@ -1,8 +1,5 @@
-use native.Mathlib.Omega.{arith}
 use borrow.Author.Rules.{rules}
-use Prim.Native.Nat.{◌-◌}
-use Rattle.consensus.specs.Leaders.{named}
-use Rattle.leaders.proofs.Linking.{Looking, named_start, named_none, looking-below, named-hit, looking-miss}
+use Rattle.leaders.proofs.Linking.{named_start, named_none, looking-below, named-hit, looking-miss}
 use Rattle.leaders.proofs.link.is_named.Goals as goal
 
 pub loop-i-init : goal.loop-i-init

@@ -1,8 +1,6 @@
-use native.Mathlib.Omega.{arith}
-use borrow.Author.Rules.{rules}
 use Prim.Native.Nat.{◌-◌}
 use Rattle.consensus.specs.Leaders.{named}
-use Rattle.leaders.proofs.Linking.{Looking, named_start, named_none, looking-below, named-hit, looking-miss}
+use Rattle.leaders.proofs.Linking.{Looking}
 use Rattle.leaders.proofs.link.is_named.Given as goal
 
 abbrev pub invariant-loop-i : goal.invariant-loop-i

@@ -1,8 +1,7 @@
-use native.Mathlib.Omega.{arith}
 use borrow.Author.Rules.{rules}
 use Rattle.held.proofs.Laws.{lawful-shape}
 use Rattle.leaders.proofs.Agreeing.{setup-long}
-use Rattle.leaders.proofs.Joining.{Joining, joining-start, joining-last, joining-done, joining-two, joining-falls, joining-place, joining-below, joining-whole, joining-room, joining-pass, joining-take}
+use Rattle.leaders.proofs.Joining.{joining-start, joining-last, joining-done, joining-two, joining-falls, joining-place, joining-below, joining-whole, joining-room, joining-pass, joining-take}
 use Rattle.leaders.proofs.Joining.{joining-low, joining-two-below}
 use Rattle.leaders.proofs.order.order_leaders.Goals as goal
 

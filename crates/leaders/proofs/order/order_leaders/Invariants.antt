@@ -1,9 +1,4 @@
-use native.Mathlib.Omega.{arith}
-use borrow.Author.Rules.{rules}
-use Rattle.held.proofs.Laws.{lawful-shape}
-use Rattle.leaders.proofs.Agreeing.{setup-long}
-use Rattle.leaders.proofs.Joining.{Joining, joining-start, joining-last, joining-done, joining-two, joining-falls, joining-place, joining-below, joining-whole, joining-room, joining-pass, joining-take}
-use Rattle.leaders.proofs.Joining.{joining-low, joining-two-below}
+use Rattle.leaders.proofs.Joining.{Joining}
 use Rattle.leaders.proofs.order.order_leaders.Given as goal
 
 abbrev pub invariant-loop-opener : goal.invariant-loop-opener

@@ -1,4 +1,3 @@
-use native.Mathlib.Omega.{arith}
 use borrow.Author.Rules.{rules}
 use Rattle.leaders.proofs.Agreeing.{member-fits, member-reach, member-stake}
 use Rattle.leaders.proofs.support.stake_at.Goals as goal

@@ -1,4 +1,3 @@
-use native.Mathlib.Omega.{arith}
 use borrow.Author.Rules.{rules}
 use Rattle.held.proofs.Laws.{lawful-shape}
 use Rattle.leaders.proofs.Agreeing.{setup-long}

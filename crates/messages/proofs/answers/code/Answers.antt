@@ -1,6 +1,4 @@
 use Rattle.messages.proofs.Replies.{code-done, code_shape}
-use native.Mathlib.Omega.{arith}
-use borrow.Author.Rules.{rules}
 use Rattle.messages.proofs.answers.code.Goals as goal
 
 pub returns-in-Done : goal.returns-in-Done

@@ -1,6 +1,4 @@
 use Rattle.messages.proofs.Replies.{room-not, room-last}
-use native.Mathlib.Omega.{arith}
-use borrow.Author.Rules.{rules}
 use Rattle.messages.proofs.answers.has_room.Goals as goal
 
 pub returns-then-out-at : goal.returns-then-out-at

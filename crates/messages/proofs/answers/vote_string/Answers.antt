@@ -1,7 +1,6 @@
 use Rattle.messages.proofs.Replies.{room-yes}
 use Rattle.messages.proofs.Replies.{id-misshapen, origin-misshapen, round-misshapen, vote-no-room, vote-done}
 use native.Mathlib.Omega.{arith}
-use borrow.Author.Rules.{rules}
 use Rattle.messages.proofs.answers.vote_string.Goals as goal
 
 pub returns-then-id-ne32 : goal.returns-then-id-ne32

@@ -1,6 +1,4 @@
 use Rattle.messages.proofs.Laws.{certificate-long, certificate-header, certificate-last}
-use native.Mathlib.Omega.{arith}
-use borrow.Author.Rules.{rules}
 use Rattle.messages.proofs.certificate.shape.Goals as goal
 
 pub returns-then-certificate-ne-CERTIFICATE : goal.returns-then-certificate-ne-CERTIFICATE

@@ -1,8 +1,6 @@
 use mathlib.Core.Path.{refl}
 use Rattle.wire.specs.Bytes.{part}
 use Rattle.messages.specs.Header.{digest_in}
-use native.Mathlib.Omega.{arith}
-use borrow.Author.Rules.{rules}
 use Rattle.messages.proofs.header.digest.Goals as goal
 
 pub returns : goal.returns

@@ -1,8 +1,6 @@
 use mathlib.Core.Path.{refl}
 use Rattle.wire.specs.Bytes.{part}
 use Rattle.messages.specs.Header.{id_of}
-use native.Mathlib.Omega.{arith}
-use borrow.Author.Rules.{rules}
 use Rattle.messages.proofs.header.id.Goals as goal
 
 pub returns : goal.returns

@@ -1,6 +1,4 @@
 use Rattle.messages.proofs.Laws.{round-low, round-high}
-use native.Mathlib.Omega.{arith}
-use borrow.Author.Rules.{rules}
 use Rattle.messages.proofs.header.lawful_round.Goals as goal
 
 pub returns-then-round-lt1 : goal.returns-then-round-lt1

@@ -1,7 +1,6 @@
 use mathlib.Core.Path.{refl}
 use Rattle.messages.specs.Header.{parent_count}
 use native.Mathlib.Omega.{arith}
-use borrow.Author.Rules.{rules}
 use Rattle.messages.proofs.header.parent_count.Goals as goal
 
 pub overflow_cast-result : goal.overflow_cast-result

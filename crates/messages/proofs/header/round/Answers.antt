@@ -1,6 +1,4 @@
 use Rattle.messages.specs.Header.{round_of}
-use native.Mathlib.Omega.{arith}
-use borrow.Author.Rules.{rules}
 use Rattle.messages.proofs.header.round.Goals as goal
 
 pub returns : goal.returns

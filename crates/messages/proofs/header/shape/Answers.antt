@@ -1,6 +1,4 @@
 use Rattle.messages.proofs.Laws.{shape-long, shape-round, shape-parents, shape-payload, shape-rising, shape-last}
-use native.Mathlib.Omega.{arith}
-use borrow.Author.Rules.{rules}
 use Rattle.messages.proofs.header.shape.Goals as goal
 
 pub returns-then-header-ne-HEADER : goal.returns-then-header-ne-HEADER

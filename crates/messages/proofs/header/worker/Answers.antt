@@ -1,6 +1,4 @@
 use Rattle.messages.specs.Header.{worker_in}
-use native.Mathlib.Omega.{arith}
-use borrow.Author.Rules.{rules}
 use Rattle.messages.proofs.header.worker.Goals as goal
 
 pub returns : goal.returns

@@ -1,6 +1,4 @@
 use Rattle.messages.proofs.Writing.{header-length-is}
-use native.Mathlib.Omega.{arith}
-use borrow.Author.Rules.{rules}
 use Rattle.messages.proofs.strings.header_length.Goals as goal
 
 pub returns : goal.returns

@@ -1,6 +1,4 @@
 use Rattle.messages.proofs.Writing.{author-room, header-written}
-use native.Mathlib.Omega.{arith}
-use borrow.Author.Rules.{rules}
 use Rattle.messages.proofs.strings.write_header.Goals as goal
 
 pub put_bytes-requires : goal.put_bytes-requires

@@ -1,6 +1,4 @@
 use Rattle.messages.proofs.Writing.{item-written, digest-room}
-use native.Mathlib.Omega.{arith}
-use borrow.Author.Rules.{rules}
 use Rattle.messages.proofs.strings.write_item.Goals as goal
 
 pub put_bytes-requires : goal.put_bytes-requires

@@ -1,8 +1,4 @@
-use Prim.Native.Nat.{◌-◌}
-use mathlib.Core.Path.{◌≡◌}
-use Rattle.messages.specs.Header.{parent_count, parents_of}
-use Rattle.messages.proofs.Writing.{Filling, filling-same, filling-done, parents-start, parents-room, parents-next}
-use native.Mathlib.Omega.{arith}
+use Rattle.messages.proofs.Writing.{filling-same, filling-done, parents-start, parents-room, parents-next}
 use borrow.Author.Rules.{rules}
 use Rattle.messages.proofs.strings.write_parents.Goals as goal
 

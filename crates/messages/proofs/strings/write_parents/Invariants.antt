@@ -1,9 +1,7 @@
 use Prim.Native.Nat.{◌-◌}
 use mathlib.Core.Path.{◌≡◌}
 use Rattle.messages.specs.Header.{parent_count, parents_of}
-use Rattle.messages.proofs.Writing.{Filling, filling-same, filling-done, parents-start, parents-room, parents-next}
-use native.Mathlib.Omega.{arith}
-use borrow.Author.Rules.{rules}
+use Rattle.messages.proofs.Writing.{Filling}
 use Rattle.messages.proofs.strings.write_parents.Given as goal
 
 abbrev pub invariant-loop-i : goal.invariant-loop-i

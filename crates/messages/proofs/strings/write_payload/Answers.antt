@@ -1,10 +1,4 @@
-use Prim.Native.Nat.{◌-◌}
-use mathlib.Core.Path.{◌≡◌}
-use mathlib.Core.List.{map}
-use Rattle.messages.specs.Header.{payload_count, payload_of}
-use Rattle.messages.specs.Strings.{payload_item}
-use Rattle.messages.proofs.Writing.{Filling, filling-same, filling-done, payload-start, payload-end, payload-long, payload-next}
-use native.Mathlib.Omega.{arith}
+use Rattle.messages.proofs.Writing.{filling-same, filling-done, payload-start, payload-end, payload-long, payload-next}
 use borrow.Author.Rules.{rules}
 use Rattle.messages.proofs.strings.write_payload.Goals as goal
 

@@ -3,9 +3,7 @@ use mathlib.Core.Path.{◌≡◌}
 use mathlib.Core.List.{map}
 use Rattle.messages.specs.Header.{payload_count, payload_of}
 use Rattle.messages.specs.Strings.{payload_item}
-use Rattle.messages.proofs.Writing.{Filling, filling-same, filling-done, payload-start, payload-end, payload-long, payload-next}
-use native.Mathlib.Omega.{arith}
-use borrow.Author.Rules.{rules}
+use Rattle.messages.proofs.Writing.{Filling}
 use Rattle.messages.proofs.strings.write_payload.Given as goal
 
 abbrev pub invariant-loop-i : goal.invariant-loop-i

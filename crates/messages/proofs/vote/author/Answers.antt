@@ -1,8 +1,6 @@
 use mathlib.Core.Path.{refl}
 use Rattle.wire.specs.Bytes.{part}
 use Rattle.messages.specs.Vote.{vote_author}
-use native.Mathlib.Omega.{arith}
-use borrow.Author.Rules.{rules}
 use Rattle.messages.proofs.vote.author.Goals as goal
 
 pub returns : goal.returns

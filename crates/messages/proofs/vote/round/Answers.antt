@@ -1,6 +1,4 @@
 use Rattle.messages.specs.Vote.{vote_round}
-use native.Mathlib.Omega.{arith}
-use borrow.Author.Rules.{rules}
 use Rattle.messages.proofs.vote.round.Goals as goal
 
 pub returns : goal.returns

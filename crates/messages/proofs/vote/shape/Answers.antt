@@ -1,6 +1,4 @@
 use Rattle.messages.proofs.Laws.{vote-long, vote-last}
-use native.Mathlib.Omega.{arith}
-use borrow.Author.Rules.{rules}
 use Rattle.messages.proofs.vote.shape.Goals as goal
 
 pub returns-then-vote-ne-VOTE : goal.returns-then-vote-ne-VOTE

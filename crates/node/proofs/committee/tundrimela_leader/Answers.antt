@@ -1,5 +1,3 @@
-use native.Mathlib.Omega.{arith}
-use borrow.Author.Rules.{rules}
 use Rattle.node.proofs.committee.tundrimela_leader.Goals as goal
 
 pub returns : goal.returns

@@ -1,6 +1,4 @@
 use Rattle.node.proofs.Laws.{count-certificate}
-use native.Mathlib.Omega.{arith}
-use borrow.Author.Rules.{rules}
 use Rattle.node.proofs.count.tundrimela_count_certificate.Goals as goal
 
 pub returns : goal.returns

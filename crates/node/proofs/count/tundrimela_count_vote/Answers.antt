@@ -1,6 +1,4 @@
 use Rattle.node.proofs.Laws.{count-vote}
-use native.Mathlib.Omega.{arith}
-use borrow.Author.Rules.{rules}
 use Rattle.node.proofs.count.tundrimela_count_vote.Goals as goal
 
 pub returns : goal.returns

@@ -1,7 +1,5 @@
 use Rattle.node.proofs.Laws.{ordering-start}
 use Rattle.ordering.proofs.Beginning.{start_small}
-use native.Mathlib.Omega.{arith}
-use borrow.Author.Rules.{rules}
 use Rattle.node.proofs.order.tundrimela_ordering_start.Goals as goal
 
 pub code-requires : goal.code-requires

@@ -1,6 +1,4 @@
 use Rattle.node.proofs.Laws.{proposed}
-use native.Mathlib.Omega.{arith}
-use borrow.Author.Rules.{rules}
 use Rattle.node.proofs.propose.tundrimela_proposer_event.Goals as goal
 
 pub returns : goal.returns

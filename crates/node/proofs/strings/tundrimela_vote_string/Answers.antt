@@ -1,6 +1,4 @@
 use Rattle.node.proofs.Laws.{vote-string}
-use native.Mathlib.Omega.{arith}
-use borrow.Author.Rules.{rules}
 use Rattle.node.proofs.strings.tundrimela_vote_string.Goals as goal
 
 pub returns : goal.returns

@@ -1,5 +1,3 @@
-use native.Mathlib.Omega.{arith}
-use borrow.Author.Rules.{rules}
 use Rattle.node.proofs.sync.tundrimela_deliver.Goals as goal
 
 pub returns : goal.returns

@@ -1,6 +1,4 @@
 use Rattle.node.proofs.Laws.{missing-payload}
-use native.Mathlib.Omega.{arith}
-use borrow.Author.Rules.{rules}
 use Rattle.node.proofs.sync.tundrimela_missing_payload.Goals as goal
 
 pub returns : goal.returns

@@ -1,5 +1,3 @@
-use native.Mathlib.Omega.{arith}
-use borrow.Author.Rules.{rules}
 use Rattle.ordering.proofs.Replies.{code_fits, code-done, code-committee, code_shape, code-stranger, code-room, code-history, code-clash}
 use Rattle.ordering.proofs.answers.code.Goals as goal
 

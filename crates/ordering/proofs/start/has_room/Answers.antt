@@ -1,5 +1,3 @@
-use native.Mathlib.Omega.{arith}
-use borrow.Author.Rules.{rules}
 use Rattle.ordering.proofs.Beginning.{room-short, room-over, room-last}
 use Rattle.ordering.proofs.start.has_room.Goals as goal
 

@@ -1,5 +1,3 @@
-use native.Mathlib.Omega.{arith}
-use borrow.Author.Rules.{rules}
 use Rattle.ordering.proofs.Beginning.{start-genesis, start-state, start-last}
 use Rattle.ordering.proofs.start.is_start.Goals as goal
 

@@ -1,5 +1,3 @@
-use native.Mathlib.Omega.{arith}
-use borrow.Author.Rules.{rules}
 use Rattle.ordering.proofs.Beginning.{row_put}
 use Rattle.ordering.proofs.start.put_row.Goals as goal
 

@@ -1,7 +1,4 @@
-use native.Mathlib.Omega.{arith}
-use borrow.Author.Rules.{rules}
-use Prim.Native.Nat.{◌-◌}
-use Rattle.ordering.proofs.Beginning.{Filling, filling-start, filling-record, filling-item, filling-few, filling-fits, filling-zeros, filling-digest, filling-next, filling-done}
+use Rattle.ordering.proofs.Beginning.{filling-start, filling-record, filling-item, filling-few, filling-fits, filling-zeros, filling-digest, filling-next, filling-done}
 use Rattle.ordering.proofs.start.put_rows.Goals as goal
 
 pub loop-i-init : goal.loop-i-init

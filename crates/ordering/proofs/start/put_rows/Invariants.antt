@@ -1,7 +1,5 @@
-use native.Mathlib.Omega.{arith}
-use borrow.Author.Rules.{rules}
 use Prim.Native.Nat.{◌-◌}
-use Rattle.ordering.proofs.Beginning.{Filling, filling-start, filling-record, filling-item, filling-few, filling-fits, filling-zeros, filling-digest, filling-next, filling-done}
+use Rattle.ordering.proofs.Beginning.{Filling}
 use Rattle.ordering.proofs.start.put_rows.Given as goal
 
 abbrev pub invariant-loop-i : goal.invariant-loop-i

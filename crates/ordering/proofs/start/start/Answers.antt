@@ -1,5 +1,3 @@
-use native.Mathlib.Omega.{arith}
-use borrow.Author.Rules.{rules}
 use Rattle.ordering.proofs.Beginning.{start-no, start-long, start-shape, start-few, start-room, start-done}
 use Rattle.ordering.proofs.start.start.Goals as goal
 

@@ -1,4 +1,3 @@
-use native.Mathlib.Omega.{arith}
 use borrow.Author.Rules.{rules}
 use Rattle.ordering.proofs.Beginning.{table-started, records-fit}
 use Rattle.ordering.proofs.Zeros.{cleared-all}

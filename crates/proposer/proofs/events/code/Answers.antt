@@ -1,6 +1,4 @@
 use Rattle.proposer.proofs.Outcomes.{code-done, code-committee, code_shape, code-room}
-use native.Mathlib.Omega.{arith}
-use borrow.Author.Rules.{rules}
 use Rattle.proposer.proofs.events.code.Goals as goal
 
 pub returns-in-Done : goal.returns-in-Done

@@ -1,6 +1,4 @@
 use Rattle.proposer.proofs.Outcomes.{call-size, call-timer, call-header, call-last}
-use native.Mathlib.Omega.{arith}
-use borrow.Author.Rules.{rules}
 use Rattle.proposer.proofs.events.is_call.Goals as goal
 
 pub returns-then-header_size-gt4294967295 : goal.returns-then-header_size-gt4294967295

@@ -1,6 +1,5 @@
 use Rattle.proposer.proofs.Outcomes.{digest-short, digest-worker, digest-full, digest-taken, digest-state}
 use Rattle.proposer.proofs.Values.{state-size, state-long}
-use native.Mathlib.Omega.{arith}
 use borrow.Author.Rules.{rules}
 use Rattle.proposer.proofs.events.on_digest.Goals as goal
 

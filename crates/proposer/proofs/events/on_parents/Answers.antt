@@ -1,6 +1,5 @@
 use Rattle.proposer.proofs.Outcomes.{parents-late, parents-ragged, parents-many, parents-dropped, parents-taken, parents-state}
 use Rattle.proposer.proofs.Values.{state-size, state-long}
-use native.Mathlib.Omega.{arith}
 use borrow.Author.Rules.{rules}
 use Rattle.proposer.proofs.events.on_parents.Goals as goal
 

@@ -1,6 +1,4 @@
 use Rattle.proposer.proofs.Outcomes.{call-state, call-room, event-no, event-parents, event-digest, event-timer, event-other}
-use native.Mathlib.Omega.{arith}
-use borrow.Author.Rules.{rules}
 use Rattle.proposer.proofs.events.proposer_event.Goals as goal
 
 pub returns-then-not-is_call : goal.returns-then-not-is_call

@@ -1,7 +1,5 @@
 use Rattle.proposer.proofs.Outcomes.{settled-not, settled-made}
 use Rattle.proposer.proofs.Values.{state-size}
-use native.Mathlib.Omega.{arith}
-use borrow.Author.Rules.{rules}
 use Rattle.proposer.proofs.events.settle.Goals as goal
 
 pub returns-then-not-is_due : goal.returns-then-not-is_due

@@ -1,6 +1,4 @@
 use Rattle.proposer.proofs.Making.{head-is}
-use native.Mathlib.Omega.{arith}
-use borrow.Author.Rules.{rules}
 use Rattle.proposer.proofs.header.put_head.Goals as goal
 
 pub returns : goal.returns

@@ -1,5 +1,4 @@
 use Rattle.proposer.proofs.Making.{list-few, list-is}
-use native.Mathlib.Omega.{arith}
 use borrow.Author.Rules.{rules}
 use Rattle.proposer.proofs.header.put_list.Goals as goal
 

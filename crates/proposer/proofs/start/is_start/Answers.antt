@@ -1,6 +1,4 @@
 use Rattle.proposer.proofs.Beginning.{start-size, start-timer, start-state, start-header, start-last}
-use native.Mathlib.Omega.{arith}
-use borrow.Author.Rules.{rules}
 use Rattle.proposer.proofs.start.is_start.Goals as goal
 
 pub returns-then-header_size-gt4294967295 : goal.returns-then-header_size-gt4294967295

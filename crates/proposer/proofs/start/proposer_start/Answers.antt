@@ -1,5 +1,4 @@
 use Rattle.proposer.proofs.Beginning.{start-no, start-own, start-stranger, start-shape, start-made, start-long, start-room, start-few, state-started}
-use native.Mathlib.Omega.{arith}
 use borrow.Author.Rules.{rules}
 use Rattle.proposer.proofs.start.proposer_start.Goals as goal
 

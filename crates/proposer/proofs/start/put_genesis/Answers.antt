@@ -1,7 +1,4 @@
-use Prim.Native.Nat.{◌-◌}
-use Rattle.proposer.proofs.Beginning.{Gathered, gathered-start, gathered-fits, gathered-item, gathered-room, gathered_next, gathered-done}
-use native.Mathlib.Omega.{arith}
-use borrow.Author.Rules.{rules}
+use Rattle.proposer.proofs.Beginning.{gathered-start, gathered-fits, gathered-item, gathered-room, gathered_next, gathered-done}
 use Rattle.proposer.proofs.start.put_genesis.Goals as goal
 
 pub loop-i-init : goal.loop-i-init

@@ -1,7 +1,5 @@
 use Prim.Native.Nat.{◌-◌}
-use Rattle.proposer.proofs.Beginning.{Gathered, gathered-start, gathered-fits, gathered-item, gathered-room, gathered_next, gathered-done}
-use native.Mathlib.Omega.{arith}
-use borrow.Author.Rules.{rules}
+use Rattle.proposer.proofs.Beginning.{Gathered}
 use Rattle.proposer.proofs.start.put_genesis.Given as goal
 
 abbrev pub invariant-loop-i : goal.invariant-loop-i

@@ -1,6 +1,4 @@
 use Rattle.proposer.proofs.Values.{add_is}
-use native.Mathlib.Omega.{arith}
-use borrow.Author.Rules.{rules}
 use Rattle.proposer.proofs.state.add.Goals as goal
 
 pub returns : goal.returns

@@ -1,6 +1,4 @@
 use Rattle.proposer.proofs.Values.{advance-is}
-use native.Mathlib.Omega.{arith}
-use borrow.Author.Rules.{rules}
 use Rattle.proposer.proofs.state.advance.Goals as goal
 
 pub returns : goal.returns

@@ -1,5 +1,4 @@
 use Rattle.proposer.specs.State.{zeros}
-use native.Mathlib.Omega.{arith}
 use borrow.Author.Rules.{rules}
 use Rattle.proposer.proofs.state.clear.Goals as goal
 

@@ -1,5 +1,4 @@
 use Rattle.proposer.specs.State.{emptied}
-use native.Mathlib.Omega.{arith}
 use borrow.Author.Rules.{rules}
 use Rattle.proposer.proofs.state.empty.Goals as goal
 

@@ -1,6 +1,5 @@
 use Rattle.proposer.proofs.Values.{state-long, few-waiting, due-no-parents, due-timer, due-size}
 use native.Mathlib.Omega.{arith}
-use borrow.Author.Rules.{rules}
 use Rattle.proposer.proofs.state.is_due.Goals as goal
 
 pub parent_count-requires : goal.parent_count-requires

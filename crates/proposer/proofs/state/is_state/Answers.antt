@@ -1,6 +1,4 @@
 use Rattle.proposer.proofs.Values.{valid-size, valid-round, valid-parents, valid-last}
-use native.Mathlib.Omega.{arith}
-use borrow.Author.Rules.{rules}
 use Rattle.proposer.proofs.state.is_state.Goals as goal
 
 pub returns-then-state-ne-STATE : goal.returns-then-state-ne-STATE

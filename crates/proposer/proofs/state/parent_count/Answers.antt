@@ -1,7 +1,6 @@
 use Rattle.proposer.specs.State.{parent_count}
 use mathlib.Core.Path.{refl}
 use native.Mathlib.Omega.{arith}
-use borrow.Author.Rules.{rules}
 use Rattle.proposer.proofs.state.parent_count.Goals as goal
 
 pub overflow_cast-result : goal.overflow_cast-result

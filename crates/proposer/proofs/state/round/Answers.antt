@@ -1,6 +1,4 @@
 use Rattle.proposer.specs.State.{round_in}
-use native.Mathlib.Omega.{arith}
-use borrow.Author.Rules.{rules}
 use Rattle.proposer.proofs.state.round.Goals as goal
 
 pub returns : goal.returns

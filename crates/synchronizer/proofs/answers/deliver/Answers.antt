@@ -1,7 +1,5 @@
 use Rattle.table.proofs.Laws.{is-shaped}
 use Rattle.synchronizer.proofs.Replies.{header-yes, no-genesis, no_table, no_header, can-look, deliver-committee, deliver-shape, not-delivered, is-delivered}
-use native.Mathlib.Omega.{arith}
-use borrow.Author.Rules.{rules}
 use Rattle.synchronizer.proofs.answers.deliver.Goals as goal
 
 pub returns-then-not-valid_members : goal.returns-then-not-valid_members

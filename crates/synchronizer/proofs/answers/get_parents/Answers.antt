@@ -1,7 +1,6 @@
 use Rattle.table.proofs.Laws.{is-shaped}
 use Rattle.synchronizer.proofs.Replies.{header-yes, no-genesis, no_table, no_header, can-look, parents-committee, parents-shape, parents-out, parents-done, few-missing}
 use native.Mathlib.Omega.{arith}
-use borrow.Author.Rules.{rules}
 use Rattle.synchronizer.proofs.answers.get_parents.Goals as goal
 
 pub returns-then-not-valid_members : goal.returns-then-not-valid_members

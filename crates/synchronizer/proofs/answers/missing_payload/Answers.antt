@@ -1,7 +1,5 @@
-use Rattle.table.proofs.Laws.{is-shaped}
 use Rattle.synchronizer.proofs.Replies.{header-yes, payload-own, payload-pairs, payload-header, payload-out, payload-done, few-batches}
 use native.Mathlib.Omega.{arith}
-use borrow.Author.Rules.{rules}
 use Rattle.synchronizer.proofs.answers.missing_payload.Goals as goal
 
 pub returns-then-own-ne32 : goal.returns-then-own-ne32

@@ -1,6 +1,5 @@
 use Rattle.genesis.proofs.Laws.{digest-fits}
 use Rattle.synchronizer.proofs.Laws.{is_known, no_place, is-new}
-use native.Mathlib.Omega.{arith}
 use borrow.Author.Rules.{rules}
 use Rattle.synchronizer.proofs.known.known_as.Goals as goal
 

@@ -3,12 +3,8 @@ use mathlib.Core.Path.{◌≡◌}
 use Rattle.table.specs.Rows.{rows_of}
 use Rattle.genesis.specs.Genesis.{records_of}
 use Rattle.messages.specs.Header.{parent_count}
-use Rattle.messages.proofs.Laws.{header-length}
-use Rattle.wire.proofs.Lists.{Testing, testing-fits, testing-item}
+use Rattle.wire.proofs.Lists.{Testing}
 use Rattle.synchronizer.specs.Parents.{has}
-use Rattle.synchronizer.proofs.Laws.{deliver-start, deliver-no, deliver-yes, deliver-done}
-use native.Mathlib.Omega.{arith}
-use borrow.Author.Rules.{rules}
 use Rattle.synchronizer.proofs.parents.deliver_certificate.Given as goal
 
 abbrev pub invariant-loop-i : goal.invariant-loop-i

@@ -1,6 +1,4 @@
 use Rattle.synchronizer.proofs.Laws.{lacks-is}
-use native.Mathlib.Omega.{arith}
-use borrow.Author.Rules.{rules}
 use Rattle.synchronizer.proofs.parents.is_missing.Goals as goal
 
 pub returns : goal.returns

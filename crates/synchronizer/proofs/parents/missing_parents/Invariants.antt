@@ -3,12 +3,8 @@ use mathlib.Core.Path.{◌≡◌}
 use Rattle.table.specs.Rows.{rows_of}
 use Rattle.genesis.specs.Genesis.{records_of}
 use Rattle.messages.specs.Header.{parent_count}
-use Rattle.messages.proofs.Laws.{header-length}
 use Rattle.synchronizer.specs.Parents.{lacks}
-use Rattle.synchronizer.proofs.Picking.{Picking, picking-fits, picking-item, picking-room, picking-next}
-use Rattle.synchronizer.proofs.Laws.{missing-start, missing-done}
-use native.Mathlib.Omega.{arith}
-use borrow.Author.Rules.{rules}
+use Rattle.synchronizer.proofs.Picking.{Picking}
 use Rattle.synchronizer.proofs.parents.missing_parents.Given as goal
 
 abbrev pub invariant-loop-i : goal.invariant-loop-i

@@ -1,7 +1,5 @@
 use Rattle.table.proofs.Laws.{found-row-fits}
 use Rattle.synchronizer.proofs.Laws.{genesis-fits, parent-genesis, parent-known, parent-none}
-use native.Mathlib.Omega.{arith}
-use borrow.Author.Rules.{rules}
 use Rattle.synchronizer.proofs.parents.parent.Goals as goal
 
 pub item-requires : goal.item-requires

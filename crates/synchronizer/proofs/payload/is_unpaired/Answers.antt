@@ -1,6 +1,4 @@
 use Rattle.synchronizer.proofs.Laws.{paired, not-paired}
-use native.Mathlib.Omega.{arith}
-use borrow.Author.Rules.{rules}
 use Rattle.synchronizer.proofs.payload.is_unpaired.Goals as goal
 
 pub returns-in-At : goal.returns-in-At

@@ -1,11 +1,6 @@
-use Prim.Native.Nat.{◌-◌}
-use mathlib.Core.Path.{◌≡◌}
-use Rattle.messages.specs.Header.{payload_count}
 use Rattle.messages.proofs.Laws.{header-length}
-use Rattle.synchronizer.specs.Payload.{pairs_of, unpaired}
-use Rattle.synchronizer.proofs.Picking.{Picking, picking-fits, picking-item, picking-room, picking-next}
+use Rattle.synchronizer.proofs.Picking.{picking-fits, picking-item, picking-room, picking-next}
 use Rattle.synchronizer.proofs.Laws.{batches-start, batches-done}
-use native.Mathlib.Omega.{arith}
 use borrow.Author.Rules.{rules}
 use Rattle.synchronizer.proofs.payload.missing_of.Goals as goal
 

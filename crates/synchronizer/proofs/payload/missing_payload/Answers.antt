@@ -1,6 +1,5 @@
 use Rattle.messages.proofs.Laws.{header-length}
 use Rattle.synchronizer.proofs.Laws.{author-reach, own-header, other-header}
-use native.Mathlib.Omega.{arith}
 use borrow.Author.Rules.{rules}
 use Rattle.synchronizer.proofs.payload.missing_payload.Goals as goal
 

@@ -1,7 +1,6 @@
 use Rattle.synchronizer.proofs.Picking.{put-few}
 use Rattle.synchronizer.proofs.Picking.{put-not, put_one}
 use native.Mathlib.Omega.{arith}
-use borrow.Author.Rules.{rules}
 use Rattle.synchronizer.proofs.picks.put_if.Goals as goal
 
 pub returns-then-not-wanted : goal.returns-then-not-wanted

@@ -1,5 +1,4 @@
 use Rattle.table.proofs.Laws.{is-long, is-big, rows_fit, rows-first}
-use native.Mathlib.Omega.{arith}
 use borrow.Author.Rules.{rules}
 use Rattle.table.proofs.find.find_part.Goals as goal
 

@@ -1,10 +1,7 @@
 use Prim.Native.Nat.{◌-◌}
 use mathlib.Core.Path.{◌≡◌}
-use Rattle.wire.proofs.Lists.{Seek, seek-start, seek-fits, seek-reach, seek_hit, seek-miss, seek-done}
+use Rattle.wire.proofs.Lists.{Seek}
 use Rattle.table.specs.Rows.{count_of, has_round_part}
-use Rattle.table.proofs.Laws.{is-long, rows_fit, rows-first}
-use native.Mathlib.Omega.{arith}
-use borrow.Author.Rules.{rules}
 use Rattle.table.proofs.find.find_round_part.Given as goal
 
 abbrev pub invariant-loop-i : goal.invariant-loop-i

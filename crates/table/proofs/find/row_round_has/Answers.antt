@@ -1,6 +1,4 @@
 use Rattle.table.proofs.Laws.{other-round, this-round}
-use native.Mathlib.Omega.{arith}
-use borrow.Author.Rules.{rules}
 use Rattle.table.proofs.find.row_round_has.Goals as goal
 
 pub returns-then-read_u32-round : goal.returns-then-read_u32-round

@@ -1,6 +1,5 @@
 use Rattle.table.proofs.Laws.{is-long, is-big, room-is}
 use native.Mathlib.Omega.{arith}
-use borrow.Author.Rules.{rules}
 use Rattle.table.proofs.rows.room.Goals as goal
 
 pub overflow_sub-body : goal.overflow_sub-body

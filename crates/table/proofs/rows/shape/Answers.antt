@@ -1,9 +1,6 @@
 use Rattle.table.proofs.Laws.{shaped-short, shaped-no-size, shaped-over, shaped-none, shaped-last}
 use Rattle.table.specs.Rows.{count_of, places}
-use Prim.Native.Nat.{ℕ, ◌+◌, ◌-◌, ◌*◌, ◌≤◌, ◌<◌}
-use mathlib.Core.Path.{◌≡◌, refl, sym, ap, ◌∙◌}
-use native.Mathlib.Omega.{arith}
-use borrow.Author.Rules.{rules}
+use mathlib.Core.Path.{sym}
 use Rattle.table.proofs.rows.shape.Goals as goal
 
 pub returns-then-table-lt8 : goal.returns-then-table-lt8

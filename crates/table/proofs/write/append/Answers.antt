@@ -1,6 +1,5 @@
 use Rattle.table.proofs.Laws.{is-long, append-room, append-few, append-exit}
 use native.Mathlib.Omega.{arith}
-use borrow.Author.Rules.{rules}
 use Rattle.table.proofs.write.append.Goals as goal
 
 pub count-n-requires : goal.count-n-requires

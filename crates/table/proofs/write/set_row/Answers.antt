@@ -1,6 +1,5 @@
 use Rattle.table.proofs.Laws.{set_room, set-exit}
 use native.Mathlib.Omega.{arith}
-use borrow.Author.Rules.{rules}
 use Rattle.table.proofs.write.set_row.Goals as goal
 
 pub overflow_mul-i : goal.overflow_mul-i

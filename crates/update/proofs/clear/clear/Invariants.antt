@@ -1,11 +1,5 @@
-use native.Mathlib.Omega.{arith}
-use borrow.Author.Rules.{rules}
-use Rattle.update.proofs.Laws.{clear-fits}
-use Rattle.held.proofs.Laws.{lawful-shape}
 use Prim.Native.Nat.{◌-◌}
-use mathlib.Core.Path.{◌≡◌}
-use Rattle.table.proofs.Laws.{is-long}
-use Rattle.sweep.proofs.Laws.{Sweeping, sweeping-start, sweeping-fits, sweeping-row, sweeping-big, sweeping-next, sweeping-whole, sweeping-kept}
+use Rattle.sweep.proofs.Laws.{Sweeping}
 use Rattle.held.specs.Rows.{lasts_of}
 use Rattle.update.specs.Update.{stays_row}
 use Rattle.update.proofs.clear.clear.Given as goal

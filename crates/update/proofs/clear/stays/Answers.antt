@@ -1,5 +1,3 @@
-use native.Mathlib.Omega.{arith}
-use borrow.Author.Rules.{rules}
 use Rattle.update.proofs.Laws.{stays-later, stays-deep}
 use Rattle.update.proofs.clear.stays.Goals as goal
 

@@ -1,7 +1,5 @@
-use native.Mathlib.Omega.{arith}
 use borrow.Author.Rules.{rules}
-use Rattle.update.proofs.Laws.{Entering, entering-start, entering-done, entering-number, entering-place, entering-room, entering-next}
-use Prim.Native.Nat.{◌-◌}
+use Rattle.update.proofs.Laws.{entering-start, entering-done, entering-number, entering-place, entering-room, entering-next}
 use Rattle.update.proofs.entries.put_list.Goals as goal
 
 pub loop-i-init : goal.loop-i-init

@@ -1,6 +1,4 @@
-use native.Mathlib.Omega.{arith}
-use borrow.Author.Rules.{rules}
-use Rattle.update.proofs.Laws.{Entering, entering-start, entering-done, entering-number, entering-place, entering-room, entering-next}
+use Rattle.update.proofs.Laws.{Entering}
 use Prim.Native.Nat.{◌-◌}
 use Rattle.update.proofs.entries.put_list.Given as goal
 

@@ -1,7 +1,5 @@
-use native.Mathlib.Omega.{arith}
 use borrow.Author.Rules.{rules}
-use Rattle.update.proofs.Laws.{Raising, raising-start, raising-done, raising-number, raising-place, raising-next}
-use Prim.Native.Nat.{◌-◌}
+use Rattle.update.proofs.Laws.{raising-start, raising-done, raising-number, raising-place, raising-next}
 use Rattle.update.proofs.raise.raise_all.Goals as goal
 
 pub loop-i-init : goal.loop-i-init

@@ -1,6 +1,4 @@
-use native.Mathlib.Omega.{arith}
-use borrow.Author.Rules.{rules}
-use Rattle.update.proofs.Laws.{Raising, raising-start, raising-done, raising-number, raising-place, raising-next}
+use Rattle.update.proofs.Laws.{Raising}
 use Prim.Native.Nat.{◌-◌}
 use Rattle.update.proofs.raise.raise_all.Given as goal
 

@@ -1,4 +1,3 @@
-use native.Mathlib.Omega.{arith}
 use borrow.Author.Rules.{rules}
 use Rattle.update.proofs.Laws.{raise-fits, raise-higher, raise-not}
 use Rattle.held.proofs.Laws.{lawful-shape}

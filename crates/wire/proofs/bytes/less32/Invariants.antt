@@ -1,10 +1,6 @@
-use native.Mathlib.Omega.{arith}
-use borrow.Author.Rules.{rules}
-use mathlib.Core.Path.{◌≡◌, refl, sym, ◌∙◌}
+use mathlib.Core.Path.{◌≡◌}
 use Prim.Native.Nat.{◌+◌, ◌-◌, ◌≤◌}
-use native.Mathlib.Nat.{add-zero}
 use Rattle.wire.specs.Bytes.{part, less}
-use Rattle.wire.proofs.Laws.{less-on, less-not, less_none}
 use Rattle.wire.proofs.bytes.less32.Given as goal
 
 abbrev pub invariant-loop-k : goal.invariant-loop-k

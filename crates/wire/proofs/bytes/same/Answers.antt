@@ -1,9 +1,8 @@
 use native.Mathlib.Omega.{arith}
 use borrow.Author.Rules.{rules}
-use mathlib.Core.Path.{◌≡◌, refl, sym, ap, ◌∙◌}
-use Prim.Native.Nat.{ℕ, ◌+◌, ◌-◌, ◌≤◌}
+use mathlib.Core.Path.{◌≡◌, refl, sym, ◌∙◌}
+use Prim.Native.Nat.{◌+◌, ◌-◌}
 use native.Mathlib.Nat.{add-zero, sub-zero}
-use Rattle.wire.specs.Bytes.{part, alike}
 use Rattle.wire.proofs.Laws.{alike-on, alike-not, alike-none}
 use Rattle.wire.proofs.bytes.same.Goals as goal
 

@@ -1,10 +1,6 @@
-use native.Mathlib.Omega.{arith}
-use borrow.Author.Rules.{rules}
-use mathlib.Core.Path.{◌≡◌, refl, sym, ap, ◌∙◌}
-use Prim.Native.Nat.{ℕ, ◌+◌, ◌-◌, ◌≤◌}
-use native.Mathlib.Nat.{add-zero, sub-zero}
+use mathlib.Core.Path.{◌≡◌}
+use Prim.Native.Nat.{◌+◌, ◌-◌, ◌≤◌}
 use Rattle.wire.specs.Bytes.{part, alike}
-use Rattle.wire.proofs.Laws.{alike-on, alike-not, alike-none}
 use Rattle.wire.proofs.bytes.same.Given as goal
 
 abbrev pub invariant-loop-k : goal.invariant-loop-k

@@ -1,6 +1,4 @@
-use Prim.Native.Nat.{◌-◌}
-use Rattle.wire.proofs.Lists.{Rising, rising-start, rising-fits, rising-fits-before, rising-reach, rising-reach-before, rising-falls, rising-next, rising-done}
-use native.Mathlib.Omega.{arith}
+use Rattle.wire.proofs.Lists.{rising-start, rising-fits, rising-fits-before, rising-reach, rising-reach-before, rising-falls, rising-next, rising-done}
 use borrow.Author.Rules.{rules}
 use Rattle.wire.proofs.items.ascending.Goals as goal
 

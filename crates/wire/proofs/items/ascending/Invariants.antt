@@ -1,7 +1,5 @@
 use Prim.Native.Nat.{◌-◌}
-use Rattle.wire.proofs.Lists.{Rising, rising-start, rising-fits, rising-fits-before, rising-reach, rising-reach-before, rising-falls, rising-next, rising-done}
-use native.Mathlib.Omega.{arith}
-use borrow.Author.Rules.{rules}
+use Rattle.wire.proofs.Lists.{Rising}
 use Rattle.wire.proofs.items.ascending.Given as goal
 
 abbrev pub invariant-loop-i : goal.invariant-loop-i

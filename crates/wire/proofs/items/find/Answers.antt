@@ -1,7 +1,4 @@
-use Prim.Native.Nat.{◌-◌}
-use Rattle.wire.specs.Items.{has_part}
-use Rattle.wire.proofs.Lists.{Seek, seek-start, seek-fits, seek-reach, seek_hit, seek-miss, seek-done}
-use native.Mathlib.Omega.{arith}
+use Rattle.wire.proofs.Lists.{seek-start, seek-fits, seek-reach, seek_hit, seek-miss, seek-done}
 use borrow.Author.Rules.{rules}
 use Rattle.wire.proofs.items.find.Goals as goal
 

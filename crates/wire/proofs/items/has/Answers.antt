@@ -1,9 +1,7 @@
 use lib.ListN.{length}
 use Rattle.wire.proofs.Laws.{part-all}
 use Rattle.wire.specs.Items.{has_part}
-use mathlib.Core.Path.{◌≡◌, refl, ◌∙◌}
-use native.Mathlib.Omega.{arith}
-use borrow.Author.Rules.{rules}
+use mathlib.Core.Path.{refl, ◌∙◌}
 use Rattle.wire.proofs.items.has.Goals as goal
 
 pub returns : goal.returns

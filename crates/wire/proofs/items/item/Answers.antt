@@ -3,7 +3,6 @@ use Rattle.wire.specs.Items.{item_in}
 use Prim.Native.Nat.{◌+◌, ◌-◌, ◌*◌}
 use mathlib.Core.Path.{◌≡◌}
 use native.Mathlib.Omega.{arith}
-use borrow.Author.Rules.{rules}
 use Rattle.wire.proofs.items.item.Goals as goal
 
 pub returns : goal.returns

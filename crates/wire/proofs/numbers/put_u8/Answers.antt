@@ -1,5 +1,3 @@
-use native.Mathlib.Omega.{arith}
-use borrow.Author.Rules.{rules}
 use Rattle.wire.proofs.Laws.{splice-one}
 use Rattle.wire.proofs.numbers.put_u8.Goals as goal
 

@@ -1,8 +1,6 @@
 use native.Mathlib.Omega.{arith}
-use borrow.Author.Rules.{rules}
-use mathlib.Core.Path.{◌≡◌, ap}
 use Prim.Native.Nat.{◌+◌}
-use Rattle.wire.specs.Bytes.{word, part}
+use Rattle.wire.specs.Bytes.{word}
 use Rattle.wire.proofs.Laws.{part4}
 use Rattle.wire.proofs.numbers.read_u32.Goals as goal
 

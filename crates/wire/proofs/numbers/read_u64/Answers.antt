@@ -1,6 +1,4 @@
-use native.Mathlib.Omega.{arith}
-use borrow.Author.Rules.{rules}
-use mathlib.Core.Path.{◌≡◌, sym}
+use mathlib.Core.Path.{sym}
 use Rattle.wire.proofs.Laws.{word-eight}
 use Rattle.wire.proofs.numbers.read_u64.Goals as goal
 

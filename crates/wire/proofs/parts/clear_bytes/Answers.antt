@@ -1,8 +1,8 @@
-use lib.Seq.{paste, paste-zero}
-use lib.ListN.{length, replicate, length-replicate, length-set}
+use lib.Seq.{paste-zero}
+use lib.ListN.{replicate, length-replicate, length-set}
 use Rattle.wire.proofs.Laws.{paste-fill, paste_all}
-use Prim.Native.Nat.{ℕ, ◌+◌, ◌-◌, ◌*◌, ◌≤◌, ◌<◌}
-use mathlib.Core.Path.{◌≡◌, refl, sym, ap, ◌∙◌}
+use Prim.Native.Nat.{◌+◌}
+use mathlib.Core.Path.{◌≡◌, refl, ◌∙◌}
 use native.Mathlib.Omega.{arith}
 use borrow.Author.Rules.{rules}
 use Rattle.wire.proofs.parts.clear_bytes.Goals as goal

@@ -1,10 +1,7 @@
-use lib.Seq.{paste, paste-zero}
-use lib.ListN.{length, replicate, length-replicate, length-set}
-use Rattle.wire.proofs.Laws.{paste-fill, paste_all}
-use Prim.Native.Nat.{ℕ, ◌+◌, ◌-◌, ◌*◌, ◌≤◌, ◌<◌}
-use mathlib.Core.Path.{◌≡◌, refl, sym, ap, ◌∙◌}
-use native.Mathlib.Omega.{arith}
-use borrow.Author.Rules.{rules}
+use lib.Seq.{paste}
+use lib.ListN.{length, replicate}
+use Prim.Native.Nat.{◌-◌, ◌≤◌}
+use mathlib.Core.Path.{◌≡◌}
 use Rattle.wire.proofs.parts.clear_bytes.Given as goal
 
 abbrev pub invariant-loop-k : goal.invariant-loop-k

@@ -1,9 +1,9 @@
 use Rattle.wire.specs.Bytes.{part}
-use lib.Seq.{paste, paste-zero}
-use lib.ListN.{length, length-set}
+use lib.Seq.{paste-zero}
+use lib.ListN.{length-set}
 use Rattle.wire.proofs.Laws.{length_part, paste-down, paste_all}
-use Prim.Native.Nat.{ℕ, ◌+◌, ◌-◌, ◌*◌, ◌≤◌, ◌<◌}
-use mathlib.Core.Path.{◌≡◌, refl, sym, ap, ◌∙◌}
+use Prim.Native.Nat.{◌+◌}
+use mathlib.Core.Path.{◌≡◌, refl, ◌∙◌}
 use native.Mathlib.Omega.{arith}
 use borrow.Author.Rules.{rules}
 use Rattle.wire.proofs.parts.copy_down.Goals as goal

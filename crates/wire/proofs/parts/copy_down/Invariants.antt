@@ -1,11 +1,8 @@
 use Rattle.wire.specs.Bytes.{part}
-use lib.Seq.{paste, paste-zero}
-use lib.ListN.{length, length-set}
-use Rattle.wire.proofs.Laws.{length_part, paste-down, paste_all}
-use Prim.Native.Nat.{ℕ, ◌+◌, ◌-◌, ◌*◌, ◌≤◌, ◌<◌}
-use mathlib.Core.Path.{◌≡◌, refl, sym, ap, ◌∙◌}
-use native.Mathlib.Omega.{arith}
-use borrow.Author.Rules.{rules}
+use lib.Seq.{paste}
+use lib.ListN.{length}
+use Prim.Native.Nat.{◌-◌, ◌≤◌}
+use mathlib.Core.Path.{◌≡◌}
 use Rattle.wire.proofs.parts.copy_down.Given as goal
 
 abbrev pub invariant-loop-k : goal.invariant-loop-k

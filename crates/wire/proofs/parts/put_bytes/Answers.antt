@@ -1,6 +1,3 @@
-use native.Mathlib.Omega.{arith}
-use borrow.Author.Rules.{rules}
-use mathlib.Core.Path.{◌≡◌, ◌∙◌, ap}
 use Rattle.wire.proofs.Laws.{splice-mid}
 use Rattle.wire.proofs.parts.put_bytes.Goals as goal
 
