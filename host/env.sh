@@ -74,6 +74,9 @@ set_up() {
     set_narwhal
 }
 
-library_is_new() { [ -f "$library" ] && [ -z "$(find crates crates.txt -newer "$library" -print -quit)" ]; }
+library_is_new() { [ -f "$library" ] && [ -z "$(find crates crates.txt -name out -prune -o -newer "$library" -print -quit)" ]; }
 
-build_library() { rt staticlib node; }
+# rt leaves the archive beside the crate. The host looks for it where $library says.
+build_library() {
+    (cd crates/node && rt lib) && mkdir -p "$(dirname "$library")" && cp crates/node/out/libnode.a "$library"
+}

@@ -1,4 +1,4 @@
-//! Links the proved library, which `rt staticlib node` writes to target/staticlib of the
+//! Links the proved library, which `./test` and `./demo` put into target/staticlib of the
 //! repository. The variable TUNDRIMELA_LIB names another folder that holds libnode.a.
 
 use std::env;
@@ -11,7 +11,7 @@ fn main() {
     println!("cargo:rerun-if-changed={}", library.display());
     if !library.is_file() {
         eprintln!(
-            "{} is not there: `rt staticlib node` makes it",
+            "{} is not there: `rt lib` in crates/node makes it, in out/; ./test copies it here",
             library.display()
         );
         std::process::exit(1);
