@@ -31,9 +31,9 @@ module _ (t : List ℕ) (round : ℕ) (origin digest out : List ℕ) where
     shape-counts h = sym (rw (sym e ∙ not-true b h))
 
     module _ (h : not b ≡ false) where
-      pub shape-low : round < 1 → false ≡ certificate_shape t round origin digest out
+      pub shape_low : round < 1 → false ≡ certificate_shape t round origin digest out
       unfolding certificate_shape
-      shape-low l = sym (rw (sym e ∙ not-false b h, lt-leb 1 round l))
+      shape_low l = sym (rw (sym e ∙ not-false b h, lt-leb 1 round l))
 
       module _ (l : 1 ≤ round) where
         pub shape-high : 4294967295 < round → false ≡ certificate_shape t round origin digest out

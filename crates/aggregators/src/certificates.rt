@@ -159,6 +159,7 @@ pub fn count_in_new(
 }
 
 // Whether all but the members is in shape.
+#[tactic(auto, using(crate::proofs::Certifying::shape_low))]
 pub fn certificate_shape(
     counts: &[u8],
     round: u64,

@@ -1,11 +1,8 @@
-use Rattle.aggregators.proofs.Certifying.{shape-counts, shape-low, shape-high, shape-origin, shape-digest, shape-out}
+use Rattle.aggregators.proofs.Certifying.{shape-counts, shape-high, shape-origin, shape-digest, shape-out}
 use Rattle.aggregators.proofs.certificates.certificate_shape.Goals as goal
 
 pub returns-then-not-counts_shape : goal.returns-then-not-counts_shape
 returns-then-not-counts_shape c = search shape-counts
-
-pub returns-then-round-lt1 : goal.returns-then-round-lt1
-returns-then-round-lt1 c = search shape-low
 
 pub returns-then-round-gt4294967295 : goal.returns-then-round-gt4294967295
 returns-then-round-gt4294967295 c = search shape-high
