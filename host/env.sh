@@ -78,5 +78,5 @@ library_is_new() { [ -f "$library" ] && [ -z "$(find crates crates.txt -name out
 
 # rt leaves the archive beside the crate. The host looks for it where $library says.
 build_library() {
-    (cd crates/node && rt lib) && mkdir -p "$(dirname "$library")" && cp crates/node/out/libnode.a "$library"
+    (cd crates/node_c && rt lib) && mkdir -p "$(dirname "$library")" && cp crates/node_c/out/libnode_c.a "$library"
 }

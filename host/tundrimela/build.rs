@@ -11,7 +11,7 @@ fn main() {
     println!("cargo:rerun-if-changed={}", library.display());
     if !library.is_file() {
         eprintln!(
-            "{} is not there: `rt lib` in crates/node makes it, in out/; ./test copies it here",
+            "{} is not there: ./test and ./demo make it, by `rt lib` in crates/node_c",
             library.display()
         );
         std::process::exit(1);

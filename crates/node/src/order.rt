@@ -3,8 +3,7 @@ ghost use Rattle.std.specs.Prelude.{◌≡◌};
 ghost use Rattle.node.specs.Promises.{OrderingStart};
 
 // Genesis held at round 0, nothing else, and every last committed round 0.
-#[unsafe(no_mangle)]
-pub extern "C" fn tundrimela_ordering_start(
+pub fn tundrimela_ordering_start(
     setup: &[u8],
     genesis: &[u8],
     state: &mut [u8],

@@ -5,8 +5,7 @@ ghost use Rattle.proposer.specs.Start.{start_after};
 ghost use Rattle.node.specs.Promises.{Proposed};
 
 // Round 1 with genesis as parents: 1 where a header was made.
-#[unsafe(no_mangle)]
-pub extern "C" fn tundrimela_proposer_start(
+pub fn tundrimela_proposer_start(
     members: &[u8],
     own: &[u8],
     genesis: &[u8],
@@ -29,8 +28,7 @@ pub extern "C" fn tundrimela_proposer_start(
 }
 
 // One event: 1 parents of round p, 2 a digest of a worker, 3 the timer. 1 where a header was made.
-#[unsafe(no_mangle)]
-pub extern "C" fn tundrimela_proposer_event(
+pub fn tundrimela_proposer_event(
     tag: u8,
     p: u64,
     parents: &[u8],

@@ -4,8 +4,7 @@ ghost use Rattle.synchronizer.specs.Answers.{code_of, deliver_answer};
 ghost use Rattle.node.specs.Promises.{GetParents, MissingPayload, Learn};
 
 // The missing parents of a header, in parent order, at the front of out; how many there are.
-#[unsafe(no_mangle)]
-pub extern "C" fn tundrimela_get_parents<'a>(
+pub fn tundrimela_get_parents<'a>(
     members: &[u8],
     genesis: &'a [u8],
     known: &'a [u8],
@@ -20,8 +19,7 @@ pub extern "C" fn tundrimela_get_parents<'a>(
 }
 
 // Whether all parents of a certificate's header are there: 1 or 0.
-#[unsafe(no_mangle)]
-pub extern "C" fn tundrimela_deliver<'a>(
+pub fn tundrimela_deliver<'a>(
     members: &[u8],
     genesis: &'a [u8],
     known: &'a [u8],
@@ -33,21 +31,14 @@ pub extern "C" fn tundrimela_deliver<'a>(
 }
 
 // The missing pairs of a header's payload, in payload order, at the front of out; how many there are.
-#[unsafe(no_mangle)]
-pub extern "C" fn tundrimela_missing_payload(
-    own: &[u8],
-    pairs: &[u8],
-    header: &[u8],
-    out: &mut [u8],
-) -> u64
+pub fn tundrimela_missing_payload(own: &[u8], pairs: &[u8], header: &[u8], out: &mut [u8]) -> u64
     ensures { MissingPayload own.now pairs.now header.now out.old result out.new }
 {
     synchronizer::answers::code(synchronizer::answers::missing_payload(own, pairs, header, out))
 }
 
 // A record more in the known table: 1, or 0 where its digest is known.
-#[unsafe(no_mangle)]
-pub extern "C" fn tundrimela_learn(known: &mut [u8], new: &[u8]) -> u64
+pub fn tundrimela_learn(known: &mut [u8], new: &[u8]) -> u64
     ensures { Learn known.old new.now result known.new }
 {
     synchronizer::answers::code(synchronizer::answers::learn(known, new))

@@ -6,29 +6,21 @@ ghost use Rattle.checks.specs.Vote.{vote_check};
 ghost use Rattle.checks.specs.Certificate.{certificate_check};
 
 // A header, with the verdicts on its id and its signature.
-#[unsafe(no_mangle)]
-pub extern "C" fn tundrimela_header_check(
-    members: &[u8],
-    header: &[u8],
-    id_ok: u8,
-    sig_ok: u8,
-) -> u64
+pub fn tundrimela_header_check(members: &[u8], header: &[u8], id_ok: u8, sig_ok: u8) -> u64
     ensures { result ≡ code_of (header_check members.now header.now id_ok sig_ok) }
 {
     checks::answers::code(checks::header::header_check(members, header, id_ok, sig_ok))
 }
 
 // A vote, with the verdict on its signature.
-#[unsafe(no_mangle)]
-pub extern "C" fn tundrimela_vote_check(members: &[u8], vote: &[u8], sig_ok: u8) -> u64
+pub fn tundrimela_vote_check(members: &[u8], vote: &[u8], sig_ok: u8) -> u64
     ensures { result ≡ code_of (vote_check members.now vote.now sig_ok) }
 {
     checks::answers::code(checks::vote::vote_check(members, vote, sig_ok))
 }
 
 // A certificate, with the verdicts on its header's id and signature and on its votes' signatures.
-#[unsafe(no_mangle)]
-pub extern "C" fn tundrimela_certificate_check(
+pub fn tundrimela_certificate_check(
     members: &[u8],
     certificate: &[u8],
     id_ok: u8,
