@@ -25,8 +25,8 @@ use Rattle.consensus.proofs.Settling.{opens-rise, opening}
 use Rattle.held.specs.Rows.{held_of, lasts_of, state_of}
 use Rattle.held.proofs.Laws.{length-held, length-lasts, lawful, origin-below}
 use Rattle.leaders.specs.Setup.{agreed_of, kind_of}
-use Rattle.leaders.specs.declared.decide.Decision.{Decision as Kind}
-use Rattle.leaders.specs.declared.decide.Decision.TheVariants.{Quiet, Missing, Opens}
+use Rattle.std.specs.Prelude.{Bool, true, false, Result, Ok, Err}
+use Rattle.refusal.specs.declared.Refusal.{Refusal}
 use Rattle.leaders.specs.Taking.{leader_at, leader_in, Opener, Taken}
 use Rattle.leaders.proofs.Agreeing.{agreed-many, agreed-edition}
 use Rattle.leaders.proofs.Opening.{opener-decides, opener-fits, opener-round, opener-is}
@@ -55,15 +55,15 @@ leaders-map a n held rs (suc k) e h =
     cons p q = cc (p, q)
 
 -- a commit opens only from round 5 on
-abbrev rank : Kind → ℕ
-rank Quiet = 0
-rank Missing = 0
-rank Opens = 1
+abbrev rank : Result Bool Refusal → ℕ
+rank (Ok false) = 0
+rank (Err e) = 0
+rank (Ok true) = 1
 
-five-rounds : (a : Agreed) (n : ℕ) (last : List ℕ) (held : List Cert) → Opens ≡ kind_of (decide a n last held) → 5 ≤ n
+five-rounds : (a : Agreed) (n : ℕ) (last : List ℕ) (held : List Cert) → Ok true ≡ kind_of (decide a n last held) → 5 ≤ n
 five-rounds a n last held e = go (decide a n last held) refl e
   where
-    go : (d : Decision) → decide a n last held ≡ d → Opens ≡ kind_of d → 5 ≤ n
+    go : (d : Decision) → decide a n last held ≡ d → Ok true ≡ kind_of d → 5 ≤ n
     go quiet q f = let z : ◌≡◌ {A = ℕ} 1 0 = ap rank f in absurd (omega arith)
     go missing q f = let z : ◌≡◌ {A = ℕ} 1 0 = ap rank f in absurd (omega arith)
     go (opens ls) q f = (opening a n last held ls q).five

@@ -18,9 +18,12 @@ use Rattle.consensus.proofs.ClearOnce.{under_some}
 use Rattle.consensus.proofs.Find.{find-some}
 use Rattle.consensus.proofs.Settle.{settled-quiet, settled-missing, settled-opens, settle-put}
 use Rattle.leaders.specs.Setup.{kind_of}
-use Rattle.accept.specs.Course.{course_of, course_for}
-use Rattle.accept.specs.declared.settle.Course.{Course}
-use Rattle.accept.specs.declared.settle.Course.TheVariants.{Clash, Full, Gap, Hold, Commit}
+use Rattle.accept.specs.Course.{course_of}
+use Rattle.std.specs.Prelude.{Result, Ok, Err}
+use Rattle.refusal.specs.Answers.{Answer, number_of}
+use Rattle.refusal.specs.declared.Refusal.{Refusal}
+use Rattle.refusal.specs.declared.Refusal.TheVariants.{NoRoom, HistoryMissing, DigestClash}
+use Rattle.accept.specs.Accept.{refusal}
 
 -- ---- parents play no part in the course
 
@@ -49,8 +52,8 @@ pub course-bare : (a : Agreed) (places : ℕ) (s : State) (x : Cert) → course_
 unfolding course_of
 course-bare a places s x = cut (clash (bare x) s.held) (holds_pair (bare x) s.held) (clash-bare x s.held) (holds-bare x s.held)
   where
-    course : Bool → Bool → Course
-    course c h = elim c [ true ↦ Clash | false ↦ elim (h || ltb (length s.held) places) [ false ↦ Full | true ↦ course_for (kind_of (decide a x.round s.last s.held)) ] ]
+    course : Bool → Bool → Result Bool Refusal
+    course c h = elim c [ true ↦ Err DigestClash | false ↦ elim (h || ltb (length s.held) places) [ false ↦ Err NoRoom | true ↦ kind_of (decide a x.round s.last s.held) ] ]
 
     cut : (c h : Bool) → c ≡ clash x s.held → h ≡ holds_pair x s.held → course c h ≡ course (clash x s.held) (holds_pair x s.held)
     cut c h p q = ap (λ (v : Bool). course v h) p ∙ ap (course (clash x s.held)) q
@@ -73,12 +76,15 @@ module _ (a : Agreed) (F : Falling a.candidates) (places : ℕ) (s : State) (x :
     pub place : (holds_pair x s.held || ltb (length s.held) places) ≡ true
     pub called : accept a places s x ≡ record { answer = listed []; steps = []; state = put x s }
 
-  abbrev pub Outcome : Course → Type 0
-  Outcome Clash = accept a places s x ≡ refuse 14 s
-  Outcome Full = accept a places s x ≡ refuse 12 s
-  Outcome Gap = accept a places s x ≡ refuse 13 s
-  Outcome Hold = Holds
-  Outcome Commit = Opened
+  -- a refusal: its number, which names it
+  pub record Refused (e : Refusal) : Type 0 where
+    pub called : accept a places s x ≡ refuse (number_of e) s
+    pub named : ◌≡◌ {A = Answer} (Err e) (refusal (number_of e))
+
+  abbrev pub Outcome : Result Bool Refusal → Type 0
+  Outcome (Err e) = Refused e
+  Outcome (Ok false) = Holds
+  Outcome (Ok true) = Opened
 
   clashes : clash x s.held ≡ true → accept a places s x ≡ refuse 14 s
   unfolding accept
@@ -88,26 +94,26 @@ module _ (a : Agreed) (F : Falling a.candidates) (places : ℕ) (s : State) (x :
   unfolding accept
   full c r = rw (t₁, t₂, c, r, accept)
 
-  pub outcome : (k : Course) → k ≡ course_of a places s x → Outcome k
-  unfolding course_of
+  pub outcome : (k : Result Bool Refusal) → k ≡ course_of a places s x → Outcome k
+  unfolding course_of refusal
   outcome k e = go (clash x s.held) refl
     where
-      is : (c : Course) → course_of a places s x ≡ c → Outcome c → Outcome k
+      is : (c : Result Bool Refusal) → course_of a places s x ≡ c → Outcome c → Outcome k
       is c q o = subst Outcome (sym (e ∙ q)) o
 
       go₂ : clash x s.held ≡ false → room ≡ true → (d : Decision) → decide a x.round s.last s.held ≡ d → Outcome k
-      go₂ c r quiet d = is Hold (rw (c, r, course_of) (ap (λ (v : Decision). course_for (kind_of v)) d)) (record { place = r; called = settled-quiet a F places s x t₁ t₂ c r d })
-      go₂ c r missing d = is Gap (rw (c, r, course_of) (ap (λ (v : Decision). course_for (kind_of v)) d)) (settled-missing a F places s x t₁ t₂ c r d)
+      go₂ c r quiet d = is (Ok false) (rw (c, r, course_of) (ap (λ (v : Decision). kind_of v) d)) (record { place = r; called = settled-quiet a F places s x t₁ t₂ c r d })
+      go₂ c r missing d = is (Err HistoryMissing) (rw (c, r, course_of) (ap (λ (v : Decision). kind_of v) d)) (record { called = settled-missing a F places s x t₁ t₂ c r d; named = refl })
       go₂ c r (opens ls) d =
-          is Commit (rw (c, r, course_of) (ap (λ (v : Decision). course_for (kind_of v)) d))
+          is (Ok true) (rw (c, r, course_of) (ap (λ (v : Decision). kind_of v) d))
           (record { place = r; leaders = ls; decided = settle-put a F x s ∙ d; called = settled-opens a F places s x t₁ t₂ c r ls d })
 
       go₁ : clash x s.held ≡ false → (b : Bool) → room ≡ b → Outcome k
-      go₁ c false r = is Full (rw (c, r, course_of)) (full c r)
+      go₁ c false r = is (Err NoRoom) (rw (c, r, course_of)) (record { called = full c r; named = refl })
       go₁ c true r = go₂ c r (decide a x.round s.last s.held) refl
 
       go : (b : Bool) → clash x s.held ≡ b → Outcome k
-      go true c = is Clash (rw (c, course_of)) (clashes c)
+      go true c = is (Err DigestClash) (rw (c, course_of)) (record { called = clashes c; named = refl })
       go false c = go₁ c (holds_pair x s.held || ltb (length s.held) places) refl
 
 -- ---- a commit lists something

@@ -14,10 +14,10 @@ use Rattle.held.specs.Rows.{held_of, lasts_of, state_of}
 use Rattle.held.proofs.Laws.{length-held}
 use Rattle.held.proofs.Putting.{holds-place}
 use Rattle.leaders.specs.Setup.{kind_of}
-use Rattle.leaders.specs.declared.decide.Decision.{Decision}
-use Rattle.accept.specs.Course.{course_of, course_for}
-use Rattle.accept.specs.declared.settle.Course.{Course}
-use Rattle.accept.specs.declared.settle.Course.TheVariants.{Clash, Full}
+use Rattle.std.specs.Prelude.{Result, Ok, Err}
+use Rattle.refusal.specs.declared.Refusal.{Refusal}
+use Rattle.accept.specs.Course.{course_of}
+use Rattle.refusal.specs.declared.Refusal.TheVariants.{NoRoom, DigestClash}
 
 -- ---- a place for it
 
@@ -31,7 +31,7 @@ module _ (t : List ℕ) (o r i n : ℕ) (ei : i ≡ pair_place o r (held_of t)) 
 -- ---- the course
 
 module _ (a : Agreed) (st t : List ℕ) (x : Cert) (b : Bool) (eb : b ≡ clash x (held_of t)) where
-  pub course-clash : b ≡ true → Clash ≡ course_of a (places 1062 t) (state_of st t) x
+  pub course-clash : b ≡ true → Err DigestClash ≡ course_of a (places 1062 t) (state_of st t) x
   unfolding course_of state_of
   course-clash h = let z : clash x (held_of t) ≡ true = sym eb ∙ h in sym (rw (z, course_of))
 
@@ -39,16 +39,16 @@ module _ (a : Agreed) (st t : List ℕ) (x : Cert) (b : Bool) (eb : b ≡ clash 
     room-is : (holds_pair x (held_of t) || ltb (length (held_of t)) (places 1062 t)) ≡ c
     room-is = rw (holds-place x (held_of t), length-held t) (sym ec)
 
-    pub course-full : not c ≡ true → Full ≡ course_of a (places 1062 t) (state_of st t) x
+    pub course-full : not c ≡ true → Err NoRoom ≡ course_of a (places 1062 t) (state_of st t) x
     unfolding course_of state_of
     course-full h =
         let z : clash x (held_of t) ≡ false = sym eb ∙ q in
         let y : (holds_pair x (held_of t) || ltb (length (held_of t)) (places 1062 t)) ≡ false = room-is ∙ not-true c h in
         sym (rw (z, y, course_of))
 
-    pub course-on : (d : Decision) (k : Course) → not c ≡ false → d ≡ kind_of (decide a x.round (lasts_of st) (held_of t)) → k ≡ course_for d → k ≡ course_of a (places 1062 t) (state_of st t) x
+    pub course-on : (d : Result Bool Refusal) → not c ≡ false → d ≡ kind_of (decide a x.round (lasts_of st) (held_of t)) → d ≡ course_of a (places 1062 t) (state_of st t) x
     unfolding course_of state_of
-    course-on d k h ed ek =
+    course-on d h ed =
         let z : clash x (held_of t) ≡ false = sym eb ∙ q in
         let y : (holds_pair x (held_of t) || ltb (length (held_of t)) (places 1062 t)) ≡ true = room-is ∙ not-false c h in
-        ek ∙ ap course_for ed ∙ sym (rw (z, y, course_of))
+        ed ∙ sym (rw (z, y, course_of))

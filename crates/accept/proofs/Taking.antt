@@ -25,13 +25,12 @@ use Rattle.update.specs.Update.{entries_of, stays_row}
 use Rattle.leaders.specs.Setup.{agreed_of, kind_of}
 use Rattle.leaders.proofs.Agreeing.{agreed-many, agreed-edition}
 use Rattle.ordering.specs.Answers.{when_done}
-use Rattle.ordering.specs.declared.answers.Answer.{Answer}
-use Rattle.ordering.specs.declared.answers.Answer.TheVariants.{Done, NoRoom, HistoryMissing, DigestClash}
+use Rattle.refusal.specs.Answers.{Answer, number_of}
 use Rattle.accept.specs.Accept.{called_for, refusal, answer_of, list_of, last_bytes, when_listed, Leaves, Taken}
 use Rattle.accept.specs.Commits.{Given, Opens, Commits, Rooms}
 use Rattle.accept.specs.Course.{course_of}
-use Rattle.accept.specs.declared.settle.Course.{Course}
-use Rattle.accept.specs.declared.settle.Course.TheVariants.{Clash, Full, Gap, Hold, Commit}
+use Rattle.std.specs.Prelude.{Result, Ok, Err}
+use Rattle.refusal.specs.declared.Refusal.{Refusal}
 use Rattle.accept.proofs.Bytes.{last-bytes}
 use Rattle.accept.proofs.Holding.{held_with}
 use Rattle.accept.proofs.Outcomes.{outcome, course-bare, serve-some, strange}
@@ -67,7 +66,7 @@ module _ (setup : List ℕ) (o r : ℕ) (d ps st t l w s k : List ℕ) (G : Give
   unfolding cert_with
   t₂ = let h = G.member in let e = agreed-many setup in lt-ltb o (length a.stakes) (omega arith)
 
-  way : (c : Course) → c ≡ course_of a (places 1062 t) (state_of st t) (record { origin = o; round = r; digest = d; parents = [] }) → outcomes.Outcome a (falls setup) (places 1062 t) (state_of st t) x t₁ t₂ c
+  way : (c : Result Bool Refusal) → c ≡ course_of a (places 1062 t) (state_of st t) (record { origin = o; round = r; digest = d; parents = [] }) → outcomes.Outcome a (falls setup) (places 1062 t) (state_of st t) x t₁ t₂ c
   unfolding cert_with
   way c e = outcome a (falls setup) (places 1062 t) (state_of st t) x t₁ t₂ c (e ∙ course-bare a (places 1062 t) (state_of st t) x)
 
@@ -75,51 +74,45 @@ module _ (setup : List ℕ) (o r : ℕ) (d ps st t l w s k : List ℕ) (G : Give
   unfolding called_for
   refused_as n b e f = f ∙ sym (ap (λ (c : Called). answer_of c.answer) e)
 
-  pub taken-clash : (c : Course) → c ≡ course_of (agreed_of setup) (places 1062 t) (state_of st t) (record { origin = o; round = r; digest = d; parents = [] }) → c ≡ Clash → Taken setup (cert_with o r d ps) DigestClash st t l w s k st t l w s k
-  unfolding refusal when_listed when_done
-  taken-clash c e f = record { answer = refused_as 14 DigestClash (way Clash (sym f ∙ e)) refl; leaves = leaves-old setup x DigestClash st t l w s k (λ u v. refl) (λ u v. refl) }
-
-  pub taken-full : (c : Course) → c ≡ course_of (agreed_of setup) (places 1062 t) (state_of st t) (record { origin = o; round = r; digest = d; parents = [] }) → c ≡ Full → Taken setup (cert_with o r d ps) NoRoom st t l w s k st t l w s k
-  unfolding refusal when_listed when_done
-  taken-full c e f = record { answer = refused_as 12 NoRoom (way Full (sym f ∙ e)) refl; leaves = leaves-old setup x NoRoom st t l w s k (λ u v. refl) (λ u v. refl) }
-
-  pub taken-gap : (c : Course) → c ≡ course_of (agreed_of setup) (places 1062 t) (state_of st t) (record { origin = o; round = r; digest = d; parents = [] }) → c ≡ Gap → Taken setup (cert_with o r d ps) HistoryMissing st t l w s k st t l w s k
-  unfolding refusal when_listed when_done
-  taken-gap c e f = record { answer = refused_as 13 HistoryMissing (way Gap (sym f ∙ e)) refl; leaves = leaves-old setup x HistoryMissing st t l w s k (λ u v. refl) (λ u v. refl) }
+  pub taken_refused : (c : Result Bool Refusal) → c ≡ course_of (agreed_of setup) (places 1062 t) (state_of st t) (record { origin = o; round = r; digest = d; parents = [] }) → (e : Refusal) → c ≡ Err e → Taken setup (cert_with o r d ps) (Err e) st t l w s k st t l w s k
+  unfolding when_listed when_done
+  taken_refused c q e f =
+      let y = way (Err e) (sym f ∙ q) in
+      record { answer = refused_as (number_of e) (Err e) y.called y.named; leaves = leaves-old setup x (Err e) st t l w s k (λ u v. refl) (λ u v. refl) }
 
   place-as : (holds : Bool) → holds ≡ ltb (pair_place x.origin x.round (held_of t)) (length (held_of t)) → (holds || ltb (length (held_of t)) (places 1062 t)) ≡ true
       → (ltb (pair_place o r (held_of t)) (count_of t) || ltb (count_of t) (places 1062 t)) ≡ true
   unfolding cert_with
   place-as holds e h = rw (← length-held t) (rw e at h)
 
-  module _ (c : Course) (e : c ≡ course_of (agreed_of setup) (places 1062 t) (state_of st t) (record { origin = o; round = r; digest = d; parents = [] })) where
+  module _ (c : Result Bool Refusal) (e : c ≡ course_of (agreed_of setup) (places 1062 t) (state_of st t) (record { origin = o; round = r; digest = d; parents = [] })) where
     -- it is held, and opens nothing
-    pub hold-place : c ≡ Hold → (ltb (pair_place o r (held_of t)) (count_of t) || ltb (count_of t) (places 1062 t)) ≡ true
+    pub hold-place : c ≡ Ok false → (ltb (pair_place o r (held_of t)) (count_of t) || ltb (count_of t) (places 1062 t)) ≡ true
     unfolding state_of
-    hold-place f = place-as _ (holds-place x (held_of t)) (way Hold (sym f ∙ e)).place
+    hold-place f = place-as _ (holds-place x (held_of t)) (way (Ok false) (sym f ∙ e)).place
 
-    pub taken-hold : c ≡ Hold → (u : List ℕ) → u ≡ table_with (cert_with o r d ps) t → Taken setup (cert_with o r d ps) (Done 0) st t l w s k st u l w s k
+    pub taken-hold : c ≡ Ok false → (u : List ℕ) → u ≡ table_with (cert_with o r d ps) t → Taken setup (cert_with o r d ps) (Ok 0) st t l w s k st u l w s k
     unfolding when_listed when_done called_for
     taken-hold f u g =
         record {
-          answer = sym (ap (λ (v : Called). answer_of v.answer) (way Hold (sym f ∙ e)).called);
+          answer = sym (ap (λ (v : Called). answer_of v.answer) (way (Ok false) (sym f ∙ e)).called);
           leaves = record { state = refl; table = g; list = refl; walk = refl; sort = refl; link = refl };
         }
 
     -- it is held, and opens a commit
-    pub commit-opens : c ≡ Commit → Opens setup (cert_with o r d ps) st t
+    pub commit-opens : c ≡ Ok true → Opens setup (cert_with o r d ps) st t
     unfolding state_of put cert_with
     commit-opens f =
-        let y = way Commit (sym f ∙ e) in
+        let y = way (Ok true) (sym f ∙ e) in
         record { place = place-as _ (holds-place x (held_of t)) y.place; opens = sym (ap kind_of y.decided) }
 
-    module _ (f : c ≡ Commit) (small : length t < 256 ^ 8) (m : ℕ) (st' t' l' w' s' k' : List ℕ) (C : Commits setup r st (table_with (cert_with o r d ps) t) l m st' t' l')
+    module _ (f : c ≡ Ok true) (small : length t < 256 ^ 8) (m : ℕ) (st' t' l' w' s' k' : List ℕ) (C : Commits setup r st (table_with (cert_with o r d ps) t) l m st' t' l')
         (R : Rooms (cert_with o r d ps) t w s k w' s' k') (size : length st' ≡ length st) (low : (i : ℕ) → get_or st' i 0 < 256) where
       abbrev T : List ℕ
       T = table_with (cert_with o r d ps) t
 
       O : outcomes.Opened a (falls setup) (places 1062 t) (state_of st t) x t₁ t₂
-      O = way Commit (sym f ∙ e)
+      O = way (Ok true) (sym f ∙ e)
 
       put-held : held_of T ≡ insert x (held_of t)
       unfolding cert_with
@@ -169,15 +162,15 @@ module _ (setup : List ℕ) (o r : ℕ) (d ps st t l w s k : List ℕ) (G : Give
       not-0 : eqb m 0 ≡ false
       not-0 = let h = some in ne_eqb m 0 (λ z. omega arith)
 
-      new : (v old : List ℕ) → when_listed (Done m) v old ≡ v
+      new : (v old : List ℕ) → when_listed (Ok m) v old ≡ v
       unfolding when_listed
       new v old = rw (not-0, when_listed)
 
-      pub taken-commit : Taken setup (cert_with o r d ps) (Done m) st t l w s k st' t' l' w' s' k'
+      pub taken-commit : Taken setup (cert_with o r d ps) (Ok m) st t l w s k st' t' l' w' s' k'
       unfolding when_done
       taken-commit =
           record {
-            answer = ap Done C.done.count ∙ sym (ap answer_of is-called);
+            answer = ap Ok C.done.count ∙ sym (ap answer_of is-called);
             leaves = record {
               state = last-bytes st' ((length setup - 8) / 69) (size ∙ G.state) low ∙ ap last_bytes lasts ∙ sym (new _ st);
               table = C.done.table ∙ ap (λ (v : List ℕ). kept 1062 (stays_row (depth_of setup) v) T) lasts ∙ sym (new _ T);

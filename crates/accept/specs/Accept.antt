@@ -7,7 +7,7 @@ use Rattle.sweep.specs.Kept.{kept}
 use Rattle.config.specs.Members.{members_of}
 use Rattle.config.specs.Committee.{valid_setup, depth_of, standing_of}
 use Rattle.config.specs.declared.committee.Standing.{Standing}
-use Rattle.config.specs.declared.committee.Standing.TheVariants.{Member, Stranger}
+use Rattle.std.specs.Prelude.{Option, Some, None}
 use Rattle.consensus.specs.Table.{Cert}
 use Rattle.consensus.specs.Order as order
 use Rattle.consensus.specs.Order.{Called, accept, refused, listed}
@@ -15,17 +15,18 @@ use Rattle.held.specs.Rows.{state_of, cert_with, table_with}
 use Rattle.update.specs.Update.{entries_of, stays_row}
 use Rattle.leaders.specs.Setup.{agreed_of}
 use Rattle.ordering.specs.Answers.{when_done}
-use Rattle.ordering.specs.declared.answers.Answer.{Answer}
-use Rattle.ordering.specs.declared.answers.Answer.TheVariants.{Done, BadCommittee, BadShape, UnknownAuthority, NoRoom, HistoryMissing, DigestClash}
+use Rattle.refusal.specs.Answers.{Answer}
+use Rattle.std.specs.Prelude.{Ok, Err}
+use Rattle.refusal.specs.declared.Refusal.TheVariants.{BadCommittee, BadShape, UnknownAuthority, NoRoom, HistoryMissing, DigestClash}
 use Rattle.accept.specs.Shape.{valid_certificate, valid_lent}
 use Rattle.accept.specs.Commits.{zeroed}
 
 -- ---- the call, as the ordering's definitions have it
 
 -- a member's place; as many as there are, where the key is no member's
-abbrev pub place_of : ℕ → Standing → ℕ
-place_of n (Member i s) = i
-place_of n Stranger = n
+abbrev pub place_of : ℕ → Option Standing → ℕ
+place_of n (Some m) = m.place
+place_of n None = n
 
 unfoldable pub offered : List ℕ → List ℕ → ℕ → List ℕ → List ℕ → Cert
 offered setup o r d ps = cert_with (place_of (length (members_of (drop 8 setup))) (standing_of (members_of (drop 8 setup)) o)) r d ps
@@ -39,17 +40,17 @@ called_for setup x st t = accept (agreed_of setup) (places 1062 t) (state_of st 
 unfoldable pub refusal : ℕ → Answer
 refusal k =
     elim (eqb k 2) [
-      | true ↦ UnknownAuthority
+      | true ↦ Err UnknownAuthority
       | false ↦ elim (eqb k 14) [
-        | true ↦ DigestClash
-        | false ↦ elim (eqb k 12) [ true ↦ NoRoom | false ↦ elim (eqb k 13) [ true ↦ HistoryMissing | false ↦ BadShape ] ]
+        | true ↦ Err DigestClash
+        | false ↦ elim (eqb k 12) [ true ↦ Err NoRoom | false ↦ elim (eqb k 13) [ true ↦ Err HistoryMissing | false ↦ Err BadShape ] ]
       ]
     ]
 
 -- the number of those listed
 abbrev pub answer_of : order.Answer → Answer
 answer_of (refused k) = refusal k
-answer_of (listed cs) = Done (length cs)
+answer_of (listed cs) = Ok (length cs)
 
 -- ---- what it leaves
 
@@ -65,13 +66,8 @@ last_bytes last = flat (map (bytes 4) last)
 unfoldable pub when_listed : Answer → List ℕ → List ℕ → List ℕ
 when_listed a new old =
     elim a [
-      | Done n ↦ elim (eqb n 0) [ true ↦ old | false ↦ new ]
-      | BadCommittee ↦ old
-      | BadShape ↦ old
-      | UnknownAuthority ↦ old
-      | NoRoom ↦ old
-      | HistoryMissing ↦ old
-      | DigestClash ↦ old
+      | Ok n ↦ elim (eqb n 0) [ true ↦ old | false ↦ new ]
+      | Err e ↦ old
     ]
 
 -- EVERY LENT SLICE AFTER A CALL that has the answer a: a refusal changes nothing. st is the state, t the table, l the list, and w, s, k
@@ -95,9 +91,9 @@ pub record Taken (setup : List ℕ) (x : Cert) (a : Answer) (st t l w s k st' t'
 unfoldable pub add_answer : List ℕ → List ℕ → ℕ → List ℕ → List ℕ → List ℕ → List ℕ → List ℕ → List ℕ → List ℕ → List ℕ → Answer
 add_answer setup o r d ps st t l w s k =
     elim (valid_setup setup) [
-      | false ↦ BadCommittee
+      | false ↦ Err BadCommittee
       | true ↦ elim (valid_certificate o r d ps && valid_lent (length (members_of (drop 8 setup))) st t l w s k) [
-        | false ↦ BadShape
+        | false ↦ Err BadShape
         | true ↦ answer_of (called_for setup (offered setup o r d ps) st t).answer
       ]
     ]

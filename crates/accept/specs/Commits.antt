@@ -8,7 +8,7 @@ use Rattle.consensus.specs.Table.{Cert, insert, pair_place}
 use Rattle.consensus.specs.Leaders.{decide, opens}
 use Rattle.held.specs.Rows.{held_of, held_shape, lasts_of, table_with}
 use Rattle.leaders.specs.Setup.{agreed_of, kind_of}
-use Rattle.leaders.specs.declared.decide.Decision.TheVariants as kinds
+use Rattle.std.specs.Prelude.{Ok}
 use Rattle.commit.specs.Commit.{leaders_of, Opened, Committed}
 
 -- a certificate of this round opens a commit
@@ -16,7 +16,7 @@ pub record Opening (setup : List ℕ) (round : ℕ) (st t : List ℕ) : Type 0 w
   pub valid : valid_setup setup ≡ true
   pub shape : held_shape ((length setup - 8) / 69) t ≡ true
   pub state : length st ≡ (length setup - 8) / 69 * 4
-  pub opens : kinds.Opens ≡ kind_of (decide (agreed_of setup) round (lasts_of st) (held_of t))
+  pub opens : Ok true ≡ kind_of (decide (agreed_of setup) round (lasts_of st) (held_of t))
 
 -- k rounds: those of the leaders that the definition opens with
 pub record Found (setup : List ℕ) (round : ℕ) (st t rounds : List ℕ) (k : ℕ) : Type 0 where
@@ -50,7 +50,7 @@ pub record Given (setup : List ℕ) (o r : ℕ) (d ps st t l w s k : List ℕ) :
 -- certificate x has a place, and opens a commit
 pub record Opens (setup : List ℕ) (x : Cert) (st t : List ℕ) : Type 0 where
   pub place : (ltb (pair_place x.origin x.round (held_of t)) (count_of t) || ltb (count_of t) (places 1062 t)) ≡ true
-  pub opens : kinds.Opens ≡ kind_of (decide (agreed_of setup) x.round (lasts_of st) (insert x (held_of t)))
+  pub opens : Ok true ≡ kind_of (decide (agreed_of setup) x.round (lasts_of st) (insert x (held_of t)))
 
 -- the rooms then: zeros in as much as was used, 8 bytes for each that is held with x put in
 unfoldable pub zeroed : Cert → List ℕ → List ℕ → List ℕ

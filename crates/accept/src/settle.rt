@@ -1,22 +1,13 @@
-// What is to be done with a certificate, decided on what is held before it is put in.
+// Whether a certificate is refused or opens a commit, decided on what is held before it is put in.
 ghost use Rattle.std.specs.Prelude.{◌≡◌, true, ◌||◌, [], ◌-◌, ◌*◌, ◌/◌, ltb, length};
 ghost use Rattle.table.specs.Rows.{count_of, places, shaped};
 ghost use Rattle.config.specs.Committee.{valid_setup};
 ghost use Rattle.consensus.specs.Table.{Cert, pair_place};
 ghost use Rattle.held.specs.Rows.{held_of, held_shape, state_of};
 ghost use Rattle.leaders.specs.Setup.{agreed_of};
-ghost use Rattle.accept.specs.Course.{course_of, course_for};
+ghost use Rattle.accept.specs.Course.{course_of};
 
-use leaders::decide::Decision;
-
-#[derive(Drop)]
-pub enum Course {
-    Clash, // its digest is held under another origin or round: 14
-    Full, // a new pair, and no place for it: 12
-    Gap, // a round that the Rust would visit holds nothing: 13
-    Hold, // it is held, and opens nothing
-    Commit, // it is held, and opens a commit
-}
+use refusal::Refusal;
 
 // Whether there is a place: the one that has this origin and round, or a free one.
 fn has_place(table: &[u8], origin: usize, round: u32) -> bool
@@ -29,17 +20,8 @@ fn has_place(table: &[u8], origin: usize, round: u32) -> bool
     table::rows::room(table, held::ROW)
 }
 
-fn follow(decision: Decision) -> Course
-    ensures { result ≡ course_for decision }
-{
-    match decision {
-        Decision::Quiet => Course::Hold,
-        Decision::Missing => Course::Gap,
-        Decision::Opens => Course::Commit,
-    }
-}
-
-// What is to be done with a certificate of this member, round and digest.
+// Whether a certificate of this member, round and digest opens a commit once it is put in. Refused where its digest is held under another
+// origin or round, where there is no place for it, and where a round that the Rust would visit holds nothing.
 pub fn settle(
     setup: &[u8],
     origin: usize,
@@ -47,7 +29,7 @@ pub fn settle(
     digest: &[u8],
     state: &[u8],
     table: &[u8],
-) -> Course
+) -> Result<bool, Refusal>
     requires setup_value { valid_setup setup.now ≡ true }
     requires table_value { held_shape ((length setup.now - 8) / 69) table.now ≡ true }
     requires state_len { length state.now ≡ (length setup.now - 8) / 69 * 4 }
@@ -55,10 +37,10 @@ pub fn settle(
     ensures { result ≡ course_of (agreed_of setup.now) (places 1062 table.now) (state_of state.now table.now) (record { origin = origin; round = round; digest = digest.now; parents = [] }) }
 {
     if held::whole::clashes(table, origin, round, digest) {
-        return Course::Clash;
+        return Err(Refusal::DigestClash);
     }
     if !has_place(table, origin, round) {
-        return Course::Full;
+        return Err(Refusal::NoRoom);
     }
-    follow(leaders::decide::decide(setup, state, table, round))
+    leaders::decide::decide(setup, state, table, round)
 }

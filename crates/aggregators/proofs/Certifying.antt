@@ -9,17 +9,18 @@ use lib.ListN.{length, get_or}
 use borrow.Author.Tests.{eq-eqb, ne_eqb, eqb-true, leb-true, leb-false, le-leb, lt-leb, ltb-true, not-true, not-false}
 use Rattle.wire.specs.Bytes.{splice}
 use Rattle.wire.specs.Items.{item_in, first_of, flat}
-use Rattle.wire.specs.declared.Found.{Found}
-use Rattle.wire.specs.declared.Found.TheVariants.{At, Nothing}
+use Rattle.std.specs.Prelude.{Option, Some, None}
 use Rattle.table.specs.Rows.{count_of, places, shaped, rows_of, with_row, appended}
 use Rattle.table.proofs.Laws.{row_below, row_is, row-length}
 use Rattle.config.specs.Committee.{valid_members}
 use Rattle.config.proofs.Laws.{both}
 use Rattle.aggregators.specs.Weight.{is_in}
 use Rattle.aggregators.specs.Certificates.{pair_count, pairs_of, with_pair, empty_row, of_round, are_counts, given, place_in, place_for, stay, grow, certificate_shape, count_certificate, CountsCertificate, Gives, CountsIn}
-use Rattle.aggregators.specs.declared.answers.Answer.TheVariants.{Done, BadCommittee, BadShape, NoRoom}
+use Rattle.std.specs.Prelude.{Result, Ok, Err}
+use Rattle.refusal.specs.declared.Refusal.{Refusal}
+use Rattle.refusal.specs.declared.Refusal.TheVariants.{BadCommittee, BadShape, NoRoom}
 use Rattle.aggregators.specs.declared.rounds.Place.{Place}
-use Rattle.aggregators.specs.declared.rounds.Place.TheVariants.{Counted, Full, Row, New}
+use Rattle.aggregators.specs.declared.rounds.Place.TheVariants.{Counted, Row, New}
 use Rattle.aggregators.proofs.Counting.{counts-table}
 use Rattle.aggregators.proofs.Giving.{length-empty, count-empty}
 
@@ -87,20 +88,20 @@ record Open (row : List ℕ) (i j : ℕ) : Type 0 where
   same : i ≡ j
   few : pair_count row < 32
 
-open_row : (row origin : List ℕ) (i j : ℕ) → place_in row origin i ≡ Row j → Open row i j
+open_row : (row origin : List ℕ) (i j : ℕ) → place_in row origin i ≡ Ok (Row j) → Open row i j
 unfolding place_in
 open_row row origin i j h = go (is_in origin (pairs_of row)) refl (leb 32 (pair_count row)) refl h where
-  go : (b : Bool) → is_in origin (pairs_of row) ≡ b → (d : Bool) → leb 32 (pair_count row) ≡ d → place_in row origin i ≡ Row j → Open row i j
+  go : (b : Bool) → is_in origin (pairs_of row) ≡ b → (d : Bool) → leb 32 (pair_count row) ≡ d → place_in row origin i ≡ Ok (Row j) → Open row i j
   go true e d f h = let z : ◌≡◌ {A = ℕ} 0 1 = cc (rw (e, place_in) at h) in absurd (omega arith)
   go false e true f h = let z : ◌≡◌ {A = ℕ} 0 1 = cc (rw (e, place_in, f, place_in) at h) in absurd (omega arith)
   go false e false f h =
       let z : i ≡ j = cc (rw (e, place_in, f, place_in) at h) in
       record { same = z; few = leb-false 32 (pair_count row) f }
 
-not_new : (row origin : List ℕ) (i : ℕ) → place_in row origin i ≡ New → ⊥
+not_new : (row origin : List ℕ) (i : ℕ) → place_in row origin i ≡ Ok New → ⊥
 unfolding place_in
 not_new row origin i h = go (is_in origin (pairs_of row)) refl (leb 32 (pair_count row)) refl h where
-  go : (b : Bool) → is_in origin (pairs_of row) ≡ b → (d : Bool) → leb 32 (pair_count row) ≡ d → place_in row origin i ≡ New → ⊥
+  go : (b : Bool) → is_in origin (pairs_of row) ≡ b → (d : Bool) → leb 32 (pair_count row) ≡ d → place_in row origin i ≡ Ok New → ⊥
   go true e d f h = let z : ◌≡◌ {A = ℕ} 0 1 = cc (rw (e, place_in) at h) in omega arith
   go false e true f h = let z : ◌≡◌ {A = ℕ} 0 1 = cc (rw (e, place_in, f, place_in) at h) in omega arith
   go false e false f h = let z : ◌≡◌ {A = ℕ} 0 1 = cc (rw (e, place_in, f, place_in) at h) in omega arith
@@ -109,27 +110,27 @@ pub record InRow (t : List ℕ) (i : ℕ) : Type 0 where
   pub below : i < count_of t
   pub few : pair_count (get_or (rows_of 2053 t) i []) < 32
 
-module _ (t : List ℕ) (round : ℕ) (origin : List ℕ) (s : shaped 2053 t ≡ true) (p : Place) (k : p ≡ place_for t round origin) where
-  pub in_row : (i : ℕ) → p ≡ Row i → InRow t i
+module _ (t : List ℕ) (round : ℕ) (origin : List ℕ) (s : shaped 2053 t ≡ true) (p : Result Place Refusal) (k : p ≡ place_for t round origin) where
+  pub in_row : (i : ℕ) → p ≡ Ok (Row i) → InRow t i
   unfolding place_for
   in_row i g = go (first_of (of_round round) (rows_of 2053 t) 0) refl (sym k ∙ g) where
-    go : (f : Found) → first_of (of_round round) (rows_of 2053 t) 0 ≡ f → place_for t round origin ≡ Row i → InRow t i
-    go (At j) e h =
+    go : (f : Option ℕ) → first_of (of_round round) (rows_of 2053 t) 0 ≡ f → place_for t round origin ≡ Ok (Row i) → InRow t i
+    go (Some j) e h =
         let o = open_row (get_or (rows_of 2053 t) j []) origin j i (rw (e, place_for) at h) in
-        let b = row_below 2053 (of_round round) t (At j) j s (sym e) refl in
+        let b = row_below 2053 (of_round round) t (Some j) j s (sym e) refl in
         record { below = omega (arith, o.same); few = rw o.same at o.few }
-    go Nothing e h = more (ltb (count_of t) (places 2053 t)) refl (rw (e, place_for) at h) where
-      more : (b : Bool) → ltb (count_of t) (places 2053 t) ≡ b → elim (ltb (count_of t) (places 2053 t)) [ true ↦ New | false ↦ Full ] ≡ Row i → InRow t i
+    go None e h = more (ltb (count_of t) (places 2053 t)) refl (rw (e, place_for) at h) where
+      more : (b : Bool) → ltb (count_of t) (places 2053 t) ≡ b → ◌≡◌ {A = Result Place Refusal} (elim (ltb (count_of t) (places 2053 t)) [ true ↦ Ok New | false ↦ Err NoRoom ]) (Ok (Row i)) → InRow t i
       more true e h = let z : ◌≡◌ {A = ℕ} 0 1 = cc (rw e at h) in absurd (omega arith)
       more false e h = let z : ◌≡◌ {A = ℕ} 0 1 = cc (rw e at h) in absurd (omega arith)
 
-  pub in-new : p ≡ New → count_of t < places 2053 t
+  pub in-new : p ≡ Ok New → count_of t < places 2053 t
   unfolding place_for
   in-new g = go (first_of (of_round round) (rows_of 2053 t) 0) refl (sym k ∙ g) where
-    go : (f : Found) → first_of (of_round round) (rows_of 2053 t) 0 ≡ f → place_for t round origin ≡ New → count_of t < places 2053 t
-    go (At j) e h = absurd (not_new (get_or (rows_of 2053 t) j []) origin j (rw (e, place_for) at h))
-    go Nothing e h = more (ltb (count_of t) (places 2053 t)) refl (rw (e, place_for) at h) where
-      more : (b : Bool) → ltb (count_of t) (places 2053 t) ≡ b → elim (ltb (count_of t) (places 2053 t)) [ true ↦ New | false ↦ Full ] ≡ New → count_of t < places 2053 t
+    go : (f : Option ℕ) → first_of (of_round round) (rows_of 2053 t) 0 ≡ f → place_for t round origin ≡ Ok New → count_of t < places 2053 t
+    go (Some j) e h = absurd (not_new (get_or (rows_of 2053 t) j []) origin j (rw (e, place_for) at h))
+    go None e h = more (ltb (count_of t) (places 2053 t)) refl (rw (e, place_for) at h) where
+      more : (b : Bool) → ltb (count_of t) (places 2053 t) ≡ b → ◌≡◌ {A = Result Place Refusal} (elim (ltb (count_of t) (places 2053 t)) [ true ↦ Ok New | false ↦ Err NoRoom ]) (Ok New) → count_of t < places 2053 t
       more true e h = ltb-true (count_of t) (places 2053 t) e
       more false e h = let z : ◌≡◌ {A = ℕ} 0 1 = cc (rw e at h) in absurd (omega arith)
 
@@ -168,40 +169,40 @@ module _ (round : ℕ) (r : List ℕ) (e : r ≡ empty_row round) where
 
 -- ---- the call, one law for each way through it
 module _ (ms t : List ℕ) (round : ℕ) (origin digest out : List ℕ) (b : Bool) (e : b ≡ valid_members ms) where
-  pub cert-committee : not b ≡ true → CountsCertificate ms t round origin digest out BadCommittee t out
+  pub cert-committee : not b ≡ true → CountsCertificate ms t round origin digest out (Err BadCommittee) t out
   unfolding count_certificate stay
   cert-committee h =
-      let z : count_certificate ms t round origin digest out ≡ stay BadCommittee t out = rw (sym e ∙ not-true b h, count_certificate) in
+      let z : count_certificate ms t round origin digest out ≡ stay (Err BadCommittee) t out = rw (sym e ∙ not-true b h, count_certificate) in
       record { answer = rw z; counts = rw z; buffer = rw z }
 
   module _ (h : not b ≡ false) (s : Bool) (f : s ≡ certificate_shape t round origin digest out) where
-    pub cert-shape : not s ≡ true → CountsCertificate ms t round origin digest out BadShape t out
+    pub cert-shape : not s ≡ true → CountsCertificate ms t round origin digest out (Err BadShape) t out
     unfolding count_certificate stay
     cert-shape g =
-        let z : count_certificate ms t round origin digest out ≡ stay BadShape t out = rw (sym e ∙ not-false b h, count_certificate, sym f ∙ not-true s g, count_certificate) in
+        let z : count_certificate ms t round origin digest out ≡ stay (Err BadShape) t out = rw (sym e ∙ not-false b h, count_certificate, sym f ∙ not-true s g, count_certificate) in
         record { answer = rw z; counts = rw z; buffer = rw z }
 
-    module _ (g : not s ≡ false) (p : Place) (k : p ≡ place_for t round origin) where
-      pub cert-counted : p ≡ Counted → CountsCertificate ms t round origin digest out (Done 0) t out
+    module _ (g : not s ≡ false) (p : Result Place Refusal) (k : p ≡ place_for t round origin) where
+      pub cert-counted : p ≡ Ok Counted → CountsCertificate ms t round origin digest out (Ok 0) t out
       unfolding count_certificate stay
       cert-counted q =
-          let z : count_certificate ms t round origin digest out ≡ stay (Done 0) t out = rw (sym e ∙ not-false b h, count_certificate, sym f ∙ not-false s g, count_certificate, sym k ∙ q, count_certificate) in
+          let z : count_certificate ms t round origin digest out ≡ stay (Ok 0) t out = rw (sym e ∙ not-false b h, count_certificate, sym f ∙ not-false s g, count_certificate, sym k ∙ q, count_certificate) in
           record { answer = rw z; counts = rw z; buffer = rw z }
 
-      pub cert-full : p ≡ Full → CountsCertificate ms t round origin digest out NoRoom t out
+      pub cert_refused : (r : Refusal) → p ≡ Err r → CountsCertificate ms t round origin digest out (Err r) t out
       unfolding count_certificate stay
-      cert-full q =
-          let z : count_certificate ms t round origin digest out ≡ stay NoRoom t out = rw (sym e ∙ not-false b h, count_certificate, sym f ∙ not-false s g, count_certificate, sym k ∙ q, count_certificate) in
+      cert_refused r q =
+          let z : count_certificate ms t round origin digest out ≡ stay (Err r) t out = rw (sym e ∙ not-false b h, count_certificate, sym f ∙ not-false s g, count_certificate, sym k ∙ q, count_certificate) in
           record { answer = rw z; counts = rw z; buffer = rw z }
 
-      pub cert-row : (i n : ℕ) (u o : List ℕ) → p ≡ Row i → CountsIn (given ms (get_or (rows_of 2053 t) i []) origin digest) (with_row 2053 t i (with_pair (get_or (rows_of 2053 t) i []) origin digest)) out n u o → CountsCertificate ms t round origin digest out (Done n) u o
+      pub cert-row : (i n : ℕ) (u o : List ℕ) → p ≡ Ok (Row i) → CountsIn (given ms (get_or (rows_of 2053 t) i []) origin digest) (with_row 2053 t i (with_pair (get_or (rows_of 2053 t) i []) origin digest)) out n u o → CountsCertificate ms t round origin digest out (Ok n) u o
       unfolding count_certificate grow
       cert-row i n u o q x =
           let z : count_certificate ms t round origin digest out ≡ grow (given ms (get_or (rows_of 2053 t) i []) origin digest) (with_row 2053 t i (with_pair (get_or (rows_of 2053 t) i []) origin digest)) out = rw (sym e ∙ not-false b h, count_certificate, sym f ∙ not-false s g, count_certificate, sym k ∙ q, count_certificate) in
-          record { answer = ap Done x.many ∙ rw z; counts = x.counts ∙ rw z; buffer = x.buffer ∙ rw z }
+          record { answer = ap Ok x.many ∙ rw z; counts = x.counts ∙ rw z; buffer = x.buffer ∙ rw z }
 
-      pub cert-new : (n : ℕ) (u o : List ℕ) → p ≡ New → CountsIn (given ms (empty_row round) origin digest) (appended 2053 t (with_pair (empty_row round) origin digest)) out n u o → CountsCertificate ms t round origin digest out (Done n) u o
+      pub cert-new : (n : ℕ) (u o : List ℕ) → p ≡ Ok New → CountsIn (given ms (empty_row round) origin digest) (appended 2053 t (with_pair (empty_row round) origin digest)) out n u o → CountsCertificate ms t round origin digest out (Ok n) u o
       unfolding count_certificate grow
       cert-new n u o q x =
           let z : count_certificate ms t round origin digest out ≡ grow (given ms (empty_row round) origin digest) (appended 2053 t (with_pair (empty_row round) origin digest)) out = rw (sym e ∙ not-false b h, count_certificate, sym f ∙ not-false s g, count_certificate, sym k ∙ q, count_certificate) in
-          record { answer = ap Done x.many ∙ rw z; counts = x.counts ∙ rw z; buffer = x.buffer ∙ rw z }
+          record { answer = ap Ok x.many ∙ rw z; counts = x.counts ∙ rw z; buffer = x.buffer ∙ rw z }

@@ -9,11 +9,10 @@ use lib.ListN.{length, get_or, drop, length-drop}
 use borrow.Author.Tests.{leb-true, le-leb, lt-leb, not-true, not-false}
 use Rattle.wire.specs.Bytes.{part, word}
 use Rattle.wire.specs.Items.{items, item_in, first_of, all_of, keys}
-use Rattle.wire.specs.declared.Found.{Found}
-use Rattle.wire.specs.declared.Found.TheVariants.{At, Nothing}
+use Rattle.std.specs.Prelude.{Option, Some, None}
 use Rattle.wire.proofs.Lists.{length-items, length-keys, all-at}
 use Rattle.table.specs.Rows.{count_of, places, shaped, rows_of, round_of}
-use Rattle.table.proofs.Laws.{is-table, rows_are, row_below, row_is, row-length}
+use Rattle.table.proofs.Laws.{is-table, row_below, row_is, row-length}
 use Rattle.config.specs.Committee.{valid_members}
 use Rattle.config.proofs.Laws.{both}
 use Rattle.aggregators.specs.Weight.{quorum_in, stake_by, is_in, enough, weight_after, gathered_after, reached}
@@ -21,16 +20,15 @@ use Rattle.aggregators.specs.Tallies.{fresh, tally_after, digests}
 use Rattle.aggregators.specs.Listed.{listed}
 use Rattle.aggregators.specs.Certificates.{pair_count, pairs_of, of_round, few_pairs, are_counts, gathered, row_reaches, given_count, place_in, place_for}
 use Rattle.aggregators.specs.declared.tally.Tally.{Tally}
-use Rattle.aggregators.specs.declared.rounds.Place.TheVariants.{Counted, Full, Row, New}
+use Rattle.std.specs.Prelude.{Ok, Err}
+use Rattle.refusal.specs.declared.Refusal.TheVariants.{NoRoom}
+use Rattle.aggregators.specs.declared.rounds.Place.TheVariants.{Counted, Row, New}
 use Rattle.aggregators.proofs.Weights.{weight_is, weight-small, from_is, gathered-is, length-digests}
 
 -- ---- rows
 pub few-is : (row : List ℕ) (n : ℕ) → n ≡ pair_count row → leb n 32 ≡ few_pairs row
 unfolding few_pairs
 few-is row n e = rw e
-
-pub all-rows : (test : List ℕ → Bool) (t : List ℕ) (n : ℕ) (b : Bool) → n ≡ count_of t → b ≡ all_of test (items 2053 t 8 n) → b ≡ all_of test (rows_of 2053 t)
-all-rows test t n b e f = f ∙ ap (all_of test) (rows_are 2053 t n e)
 
 pub round_is : (row : List ℕ) (round n : ℕ) → n ≡ word (part row 0 4) → eqb n round ≡ of_round round row
 unfolding of_round round_of
@@ -68,29 +66,29 @@ origin-is row origin n b e f = f ∙ rw e
 
 -- ---- the place of a certificate
 module _ (row origin : List ℕ) (i : ℕ) where
-  row-counted : is_in origin (pairs_of row) ≡ true → place_in row origin i ≡ Counted
+  row-counted : is_in origin (pairs_of row) ≡ true → place_in row origin i ≡ Ok Counted
   unfolding place_in
   row-counted h = rw (h, place_in)
 
-  row-full : is_in origin (pairs_of row) ≡ false → 32 ≤ pair_count row → place_in row origin i ≡ Full
+  row-full : is_in origin (pairs_of row) ≡ false → 32 ≤ pair_count row → place_in row origin i ≡ Err NoRoom
   unfolding place_in
   row-full h l = rw (h, place_in, le-leb 32 (pair_count row) l, place_in)
 
-  row_open : is_in origin (pairs_of row) ≡ false → pair_count row < 32 → place_in row origin i ≡ Row i
+  row_open : is_in origin (pairs_of row) ≡ false → pair_count row < 32 → place_in row origin i ≡ Ok (Row i)
   unfolding place_in
   row_open h l = rw (h, place_in, lt-leb 32 (pair_count row) l, place_in)
 
-module _ (t : List ℕ) (round : ℕ) (origin : List ℕ) (f : Found) (e : f ≡ first_of (of_round round) (rows_of 2053 t) 0) where
-  module _ (g : f ≡ Nothing) (b : Bool) (k : b ≡ ltb (count_of t) (places 2053 t)) where
-    pub place-new : b ≡ true → New ≡ place_for t round origin
+module _ (t : List ℕ) (round : ℕ) (origin : List ℕ) (f : Option ℕ) (e : f ≡ first_of (of_round round) (rows_of 2053 t) 0) where
+  module _ (g : f ≡ None) (b : Bool) (k : b ≡ ltb (count_of t) (places 2053 t)) where
+    pub place-new : b ≡ true → (Ok New) ≡ place_for t round origin
     unfolding place_for
     place-new h = sym (rw (sym e ∙ g, place_for, sym k ∙ h, place_for))
 
-    pub place-no-row : b ≡ false → Full ≡ place_for t round origin
+    pub place-no-row : b ≡ false → (Err NoRoom) ≡ place_for t round origin
     unfolding place_for
     place-no-row h = sym (rw (sym e ∙ g, place_for, sym k ∙ h, place_for))
 
-  module _ (i : ℕ) (g : f ≡ At i) (h : are_counts t ≡ true) where
+  module _ (i : ℕ) (g : f ≡ Some i) (h : are_counts t ≡ true) where
     below : i < count_of t
     below = row_below 2053 (of_round round) t f i (counts-table t h) e g
 
@@ -112,14 +110,14 @@ module _ (t : List ℕ) (round : ℕ) (origin : List ℕ) (f : Found) (e : f ≡
       in_row = ap (λ (z : List ℕ). place_in z origin i) place_is ∙ sym (rw (sym e ∙ g, place_for))
 
       module _ (b : Bool) (k : b ≡ is_in origin (pairs_of r)) where
-        pub place-counted : b ≡ true → Counted ≡ place_for t round origin
+        pub place-counted : b ≡ true → (Ok Counted) ≡ place_for t round origin
         place-counted m = sym (row-counted r origin i (sym k ∙ m)) ∙ in_row
 
         module _ (m : b ≡ false) (n : ℕ) (o : n ≡ pair_count r) where
-          pub place-full : 32 ≤ n → Full ≡ place_for t round origin
+          pub place-full : 32 ≤ n → (Err NoRoom) ≡ place_for t round origin
           place-full l = sym (row-full r origin i (sym k ∙ m) (omega arith)) ∙ in_row
 
-          pub place-row : n < 32 → Row i ≡ place_for t round origin
+          pub place-row : n < 32 → (Ok (Row i)) ≡ place_for t round origin
           place-row l = sym (row_open r origin i (sym k ∙ m) (omega arith)) ∙ in_row
 
 -- ---- what a row gives

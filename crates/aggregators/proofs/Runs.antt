@@ -18,8 +18,10 @@ use Rattle.aggregators.specs.Weight.{quorum_in, stake_by, weighed, held, digest_
 use Rattle.aggregators.specs.Listed.{added}
 use Rattle.aggregators.specs.Votes.{voter_count, voters_of, with_voter, are_voters, votes_weight, OneMore}
 use Rattle.aggregators.specs.Certificates.{pair_count, pairs_of, with_pair, empty_row, few_pairs, are_counts, gathered, row_weight, place_for, stay, grow, certificate_shape, count_certificate, PairMore}
+use Rattle.std.specs.Prelude.{Result, Ok, Err}
+use Rattle.refusal.specs.declared.Refusal.{Refusal}
 use Rattle.aggregators.specs.declared.rounds.Place.{Place}
-use Rattle.aggregators.specs.declared.rounds.Place.TheVariants.{Counted, Full, Row, New}
+use Rattle.aggregators.specs.declared.rounds.Place.TheVariants.{Counted, Row, New}
 use Rattle.aggregators.proofs.Weights.{weight-more, gathered-more, keys-more}
 use Rattle.aggregators.proofs.Listing.{length-added, count-added, listed-added}
 use Rattle.aggregators.proofs.Voting.{are-voters}
@@ -107,23 +109,23 @@ counts-after t u rs rest a h = rw (a.shape, a.rows) h
 pub counts-stay : (ms t : List ℕ) (round : ℕ) (origin digest out : List ℕ) → length t < 256 ^ 8 → are_counts t ≡ true → are_counts (count_certificate ms t round origin digest out).counts ≡ true
 unfolding count_certificate stay grow
 counts-stay ms t round origin digest out w c = go (valid_members ms) refl (certificate_shape t round origin digest out) refl (place_for t round origin) refl where
-  go : (a : Bool) → valid_members ms ≡ a → (b : Bool) → certificate_shape t round origin digest out ≡ b → (p : Place) → place_for t round origin ≡ p → are_counts (count_certificate ms t round origin digest out).counts ≡ true
+  go : (a : Bool) → valid_members ms ≡ a → (b : Bool) → certificate_shape t round origin digest out ≡ b → (p : Result Place Refusal) → place_for t round origin ≡ p → are_counts (count_certificate ms t round origin digest out).counts ≡ true
   go false e b f p g = rw (e, count_certificate) c
   go true e false f p g = rw (e, count_certificate, f, count_certificate) c
-  go true e true f Counted g = rw (e, count_certificate, f, count_certificate, g, count_certificate) c
-  go true e true f Full g = rw (e, count_certificate, f, count_certificate, g, count_certificate) c
-  go true e true f (Row i) g =
+  go true e true f (Ok Counted) g = rw (e, count_certificate, f, count_certificate, g, count_certificate) c
+  go true e true f (Err x) g = rw (e, count_certificate, f, count_certificate, g, count_certificate) c
+  go true e true f (Ok (Row i)) g =
       let z = in-shape t round origin digest out true (sym f) refl in
-      let r = in_row t round origin z.table (Row i) (sym g) i refl in
+      let r = in_row t round origin z.table (Ok (Row i)) (sym g) i refl in
       let row = get_or (rows_of 2053 t) i [] in
       let l = row-of-length t i z.table r.below in
       rw (e, count_certificate, f, count_certificate, g, count_certificate)
       (counts-after t (with_row 2053 t i (with_pair row origin digest)) (set (rows_of 2053 t) i (with_pair row origin digest)) (past_of 2053 t)
       (set_after 2053 t i (with_pair row origin digest) z.table r.below (length-with row origin digest l r.few z.key z.name))
       (all_set few_pairs (rows_of 2053 t) i (with_pair row origin digest) (counts-few t c) (few-with ms row origin digest l r.few z.key z.name)))
-  go true e true f New g =
+  go true e true f (Ok New) g =
       let z = in-shape t round origin digest out true (sym f) refl in
-      let n = in-new t round origin z.table New (sym g) refl in
+      let n = in-new t round origin z.table (Ok New) (sym g) refl in
       let row = empty_row round in
       let l = length-empty round in
       let k : pair_count (empty_row round) < 32 = omega (arith, count-empty round) in

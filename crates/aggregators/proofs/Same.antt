@@ -2,10 +2,9 @@
 use mathlib.Core.Path.{◌≡◌, sym, ◌∙◌}
 use mathlib.Core.List.{List}
 use Prim.Native.Nat.{ℕ}
-use Rattle.aggregators.specs.Answers.{code_of}
 use Rattle.aggregators.specs.Votes.{CountsVote}
 use Rattle.aggregators.specs.Certificates.{CountsCertificate}
-use Rattle.aggregators.specs.declared.answers.Answer.{Answer}
+use Rattle.refusal.specs.Answers.{Answer, code_of}
 
 pub same_code : (a : Answer) (r s : ℕ) → r ≡ code_of a → s ≡ code_of a → r ≡ s
 same_code a r s p q = p ∙ sym q

@@ -12,37 +12,15 @@ use Rattle.wire.specs.Items.{items, keys}
 use Rattle.wire.proofs.Lists.{items-sized}
 use Rattle.config.specs.Committee.{valid_members}
 use Rattle.config.proofs.Laws.{both}
-use Rattle.aggregators.specs.Answers.{code_of}
 use Rattle.aggregators.specs.Weight.{quorum_in, stake_by, is_in, enough, reached}
 use Rattle.aggregators.specs.Tallies.{fresh, tally_after}
 use Rattle.aggregators.specs.Listed.{listed, added}
 use Rattle.aggregators.specs.Votes.{voter_count, voters_of, with_voter, are_voters, votes_weight, vote_reaches, refuse, accept, count_vote, CountsVote}
 use Rattle.aggregators.specs.declared.tally.Tally.{Tally}
-use Rattle.aggregators.specs.declared.answers.Answer.{Answer}
-use Rattle.aggregators.specs.declared.answers.Answer.TheVariants.{Done, BadCommittee, BadShape, AuthorityReuse, NoRoom}
+use Rattle.refusal.specs.Answers.{Answer}
+use Rattle.std.specs.Prelude.{Ok, Err}
+use Rattle.refusal.specs.declared.Refusal.TheVariants.{BadCommittee, BadShape, AuthorityReuse, NoRoom}
 use Rattle.aggregators.proofs.Weights.{keys-same, weight_is, weight-small}
-
--- ---- the numbers
-module _ (a : Answer) where
-  pub code-done : (n : ℕ) → a ≡ Done n → 256 * n ≡ code_of a
-  unfolding code_of
-  code-done n e = rw e (omega arith)
-
-  pub code-committee : a ≡ BadCommittee → 10 ≡ code_of a
-  unfolding code_of
-  code-committee e = rw e
-
-  pub code_shape : a ≡ BadShape → 11 ≡ code_of a
-  unfolding code_of
-  code_shape e = rw e
-
-  pub code-reuse : a ≡ AuthorityReuse → 5 ≡ code_of a
-  unfolding code_of
-  code-reuse e = rw e
-
-  pub code-room : a ≡ NoRoom → 12 ≡ code_of a
-  unfolding code_of
-  code-room e = rw e
 
 -- ---- the shape of voters
 pub shape-length : (t : List ℕ) → (length t ≡ 1025 → ⊥) → false ≡ are_voters t
@@ -101,39 +79,39 @@ pub is-voters : (t : List ℕ) (b : Bool) → b ≡ are_voters t → not b ≡ f
 is-voters t b e h = sym e ∙ not-false b h
 
 module _ (ms t author : List ℕ) (b : Bool) (e : b ≡ valid_members ms) where
-  pub vote-committee : not b ≡ true → CountsVote ms t author BadCommittee t
+  pub vote-committee : not b ≡ true → CountsVote ms t author (Err BadCommittee) t
   unfolding count_vote refuse
   vote-committee h =
-      let z : count_vote ms t author ≡ refuse BadCommittee t = rw (sym e ∙ not-true b h, count_vote) in
+      let z : count_vote ms t author ≡ refuse (Err BadCommittee) t = rw (sym e ∙ not-true b h, count_vote) in
       record { answer = rw z; voters = rw z }
 
   module _ (h : not b ≡ false) (d : Bool) (f : d ≡ are_voters t) where
-    pub vote-shape : not d ≡ true → CountsVote ms t author BadShape t
+    pub vote-shape : not d ≡ true → CountsVote ms t author (Err BadShape) t
     unfolding count_vote refuse
     vote-shape i =
-        let z : count_vote ms t author ≡ refuse BadShape t = rw (sym e ∙ not-false b h, sym f ∙ not-true d i, count_vote) in
+        let z : count_vote ms t author ≡ refuse (Err BadShape) t = rw (sym e ∙ not-false b h, sym f ∙ not-true d i, count_vote) in
         record { answer = rw z; voters = rw z }
 
     module _ (i : not d ≡ false) where
-      pub vote-author : (length author ≡ 32 → ⊥) → CountsVote ms t author BadShape t
+      pub vote-author : (length author ≡ 32 → ⊥) → CountsVote ms t author (Err BadShape) t
       unfolding count_vote refuse
       vote-author l =
-          let z : count_vote ms t author ≡ refuse BadShape t = rw (sym e ∙ not-false b h, sym f ∙ not-false d i, ne_eqb (length author) 32 l, count_vote) in
+          let z : count_vote ms t author ≡ refuse (Err BadShape) t = rw (sym e ∙ not-false b h, sym f ∙ not-false d i, ne_eqb (length author) 32 l, count_vote) in
           record { answer = rw z; voters = rw z }
 
       module _ (l : length author ≡ 32) (g : Bool) (k : g ≡ is_in author (voters_of t)) where
-        pub vote-again : g ≡ true → CountsVote ms t author AuthorityReuse t
+        pub vote-again : g ≡ true → CountsVote ms t author (Err AuthorityReuse) t
         unfolding count_vote refuse
         vote-again m =
-            let z : count_vote ms t author ≡ refuse AuthorityReuse t = rw (sym e ∙ not-false b h, sym f ∙ not-false d i, eq-eqb (length author) 32 l, sym k ∙ m, count_vote) in
+            let z : count_vote ms t author ≡ refuse (Err AuthorityReuse) t = rw (sym e ∙ not-false b h, sym f ∙ not-false d i, eq-eqb (length author) 32 l, sym k ∙ m, count_vote) in
             record { answer = rw z; voters = rw z }
 
         module _ (m : g ≡ false) (n : ℕ) (o : n ≡ voter_count t) where
-          pub vote-full : 32 ≤ n → CountsVote ms t author NoRoom t
+          pub vote-full : 32 ≤ n → CountsVote ms t author (Err NoRoom) t
           unfolding count_vote refuse
           vote-full p =
               let q : 32 ≤ voter_count t = omega arith in
-              let z : count_vote ms t author ≡ refuse NoRoom t = rw (sym e ∙ not-false b h, sym f ∙ not-false d i, eq-eqb (length author) 32 l, sym k ∙ m, le-leb 32 (voter_count t) q, count_vote) in
+              let z : count_vote ms t author ≡ refuse (Err NoRoom) t = rw (sym e ∙ not-false b h, sym f ∙ not-false d i, eq-eqb (length author) 32 l, sym k ∙ m, le-leb 32 (voter_count t) q, count_vote) in
               record { answer = rw z; voters = rw z }
 
           module _ (p : n < 32) (r : Bool) (s : r ≡ vote_reaches ms t author) where
@@ -144,10 +122,10 @@ module _ (ms t author : List ℕ) (b : Bool) (e : b ≡ valid_members ms) where
                 rw (sym e ∙ not-false b h, sym f ∙ not-false d i, eq-eqb (length author) 32 l, sym k ∙ m, lt-leb 32 (voter_count t) q, count_vote, sym s ∙ y)
 
             module _ (u : List ℕ) (v : u ≡ with_voter t author) where
-              pub vote-quorum : r ≡ true → CountsVote ms t author (Done 1) u
+              pub vote-quorum : r ≡ true → CountsVote ms t author (Ok 1) u
               unfolding accept
               vote-quorum y = let z = counts true y in record { answer = rw z; voters = v ∙ rw z }
 
-              pub vote-more : r ≡ false → CountsVote ms t author (Done 0) u
+              pub vote-more : r ≡ false → CountsVote ms t author (Ok 0) u
               unfolding accept
               vote-more y = let z = counts false y in record { answer = rw z; voters = v ∙ rw z }

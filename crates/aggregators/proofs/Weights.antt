@@ -11,8 +11,7 @@ use lib.ListN.{length, get_or, drop, drop_of_length-le, length-append}
 use lib.Seq.{drop-cons, drop-append-le, append_snoc}
 use borrow.Author.Tests.{le-leb, lt-leb, leb-false}
 use Rattle.wire.specs.Items.{items, item_in, first_of, has_part, key_of, keys}
-use Rattle.wire.specs.declared.Found.{Found}
-use Rattle.wire.specs.declared.Found.TheVariants.{At, Nothing}
+use Rattle.std.specs.Prelude.{Option, Some, None}
 use Rattle.wire.proofs.Laws.{true-or-false, length_part, part-all}
 use Rattle.wire.proofs.Lists.{Sized, none, one, item-fits, item-is, item-length, length-items}
 use Rattle.config.specs.Members.{members_of}
@@ -23,12 +22,12 @@ use Rattle.aggregators.specs.Tallies.{fresh, counted, tally_after, digests}
 use Rattle.aggregators.specs.declared.tally.Tally.{Tally}
 
 -- ---- whether a key is counted
-module _ (key : List ℕ) (rs : List (List ℕ)) (f : Found) (e : f ≡ first_of (has_part 0 key) rs 0) where
-  pub key_in : (i : ℕ) → f ≡ At i → true ≡ is_in key rs
+module _ (key : List ℕ) (rs : List (List ℕ)) (f : Option ℕ) (e : f ≡ first_of (has_part 0 key) rs 0) where
+  pub key_in : (i : ℕ) → f ≡ Some i → true ≡ is_in key rs
   unfolding is_in
   key_in i g = sym (rw (sym e ∙ g))
 
-  pub key-out : f ≡ Nothing → false ≡ is_in key rs
+  pub key-out : f ≡ None → false ≡ is_in key rs
   unfolding is_in
   key-out g = sym (rw (sym e ∙ g))
 

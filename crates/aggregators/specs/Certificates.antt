@@ -2,16 +2,18 @@
 use Rattle.std.specs.Prelude.{ℕ, ◌+◌, ◌-◌, ◌≡◌, Bool, true, false, ◌&&◌, List, [], ◌∷◌, ◌++◌, length, get_or, drop, replicate, eqb, ltb, leb}
 use Rattle.wire.specs.Bytes.{splice, bytes}
 use Rattle.wire.specs.Items.{first_of, all_of, keys, flat}
-use Rattle.wire.specs.declared.Found.TheVariants.{At, Nothing}
+use Rattle.std.specs.Prelude.{Some, None}
 use Rattle.table.specs.Rows.{count_of, places, shaped, rows_of, appended, with_row, round_of}
 use Rattle.config.specs.Committee.{valid_members}
 use Rattle.aggregators.specs.Weight.{quorum_in, stake_by, is_in, weighed, weight_after, held, gathered_after, reached}
 use Rattle.aggregators.specs.Tallies.{digests}
 use Rattle.aggregators.specs.Listed.{listed, added}
-use Rattle.aggregators.specs.declared.answers.Answer.{Answer}
-use Rattle.aggregators.specs.declared.answers.Answer.TheVariants.{Done, BadCommittee, BadShape, NoRoom}
+use Rattle.refusal.specs.Answers.{Answer}
+use Rattle.std.specs.Prelude.{Result, Ok, Err}
+use Rattle.refusal.specs.declared.Refusal.{Refusal}
+use Rattle.refusal.specs.declared.Refusal.TheVariants.{BadCommittee, BadShape, NoRoom}
 use Rattle.aggregators.specs.declared.rounds.Place.{Place}
-use Rattle.aggregators.specs.declared.rounds.Place.TheVariants.{Counted, Full, Row, New}
+use Rattle.aggregators.specs.declared.rounds.Place.TheVariants.{Counted, Row, New}
 
 -- ---- the row of a round: round 4, how many pairs 1, then 32 pairs of an origin's key and a digest, in the order counted
 abbrev pub pair_count : List ℕ → ℕ
@@ -58,15 +60,15 @@ unfoldable pub given_count : List ℕ → List ℕ → List ℕ → ℕ
 given_count ms row origin = elim (row_reaches ms row origin) [ true ↦ length (gathered ms row) + 1 | false ↦ 0 ]
 
 -- ---- where a certificate is counted: behind the pairs of its round's row, or in a new row, or it is counted already, or there is no place
-unfoldable pub place_in : List ℕ → List ℕ → ℕ → Place
+unfoldable pub place_in : List ℕ → List ℕ → ℕ → Result Place Refusal
 place_in row origin i =
-    elim (is_in origin (pairs_of row)) [ true ↦ Counted | false ↦ elim (leb 32 (pair_count row)) [ true ↦ Full | false ↦ Row i ] ]
+    elim (is_in origin (pairs_of row)) [ true ↦ Ok Counted | false ↦ elim (leb 32 (pair_count row)) [ true ↦ Err NoRoom | false ↦ Ok (Row i) ] ]
 
-unfoldable pub place_for : List ℕ → ℕ → List ℕ → Place
+unfoldable pub place_for : List ℕ → ℕ → List ℕ → Result Place Refusal
 place_for t round origin =
     elim (first_of (of_round round) (rows_of 2053 t) 0) [
-      | At i ↦ place_in (get_or (rows_of 2053 t) i []) origin i
-      | Nothing ↦ elim (ltb (count_of t) (places 2053 t)) [ true ↦ New | false ↦ Full ]
+      | Some i ↦ place_in (get_or (rows_of 2053 t) i []) origin i
+      | None ↦ elim (ltb (count_of t) (places 2053 t)) [ true ↦ Ok New | false ↦ Err NoRoom ]
     ]
 
 -- ---- what a call answers, and the table and the buffer that it leaves
@@ -80,7 +82,7 @@ stay a t out = record { answer = a; counts = t; out = out }
 
 -- how many digests are given; they stand at the front of the buffer
 unfoldable pub grow : List (List ℕ) → List ℕ → List ℕ → Certified
-grow ds t out = record { answer = Done (length ds); counts = t; out = splice out 0 (flat ds) }
+grow ds t out = record { answer = Ok (length ds); counts = t; out = splice out 0 (flat ds) }
 
 unfoldable pub certificate_shape : List ℕ → ℕ → List ℕ → List ℕ → List ℕ → Bool
 certificate_shape t round origin digest out =
@@ -90,19 +92,19 @@ certificate_shape t round origin digest out =
 unfoldable pub count_certificate : List ℕ → List ℕ → ℕ → List ℕ → List ℕ → List ℕ → Certified
 count_certificate ms t round origin digest out =
     elim (valid_members ms) [
-      | false ↦ stay BadCommittee t out
+      | false ↦ stay (Err BadCommittee) t out
       | true ↦
           elim (certificate_shape t round origin digest out) [
-            | false ↦ stay BadShape t out
+            | false ↦ stay (Err BadShape) t out
             | true ↦
                 elim (place_for t round origin) [
-                  | Counted ↦ stay (Done 0) t out
-                  | Full ↦ stay NoRoom t out
-                  | Row i ↦
+                  | Ok Counted ↦ stay (Ok 0) t out
+                  | Err e ↦ stay (Err e) t out
+                  | Ok (Row i) ↦
                       grow (given ms (get_or (rows_of 2053 t) i []) origin digest)
                       (with_row 2053 t i (with_pair (get_or (rows_of 2053 t) i []) origin digest))
                       out
-                  | New ↦ grow (given ms (empty_row round) origin digest) (appended 2053 t (with_pair (empty_row round) origin digest)) out
+                  | Ok New ↦ grow (given ms (empty_row round) origin digest) (appended 2053 t (with_pair (empty_row round) origin digest)) out
                 ]
           ]
     ]

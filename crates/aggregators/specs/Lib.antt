@@ -1,4 +1,3 @@
-pub mod Answers
 pub mod Weight
 pub mod Tallies
 pub mod Listed

@@ -3,8 +3,9 @@ use Rattle.std.specs.Prelude.{ℕ, ◌≡◌, Bool, true, false, ◌&&◌, List,
 use Rattle.config.specs.Committee.{valid_members}
 use Rattle.aggregators.specs.Weight.{quorum_in, stake_by, is_in, weighed, weight_after, reached}
 use Rattle.aggregators.specs.Listed.{listed, added}
-use Rattle.aggregators.specs.declared.answers.Answer.{Answer}
-use Rattle.aggregators.specs.declared.answers.Answer.TheVariants.{Done, BadCommittee, BadShape, AuthorityReuse, NoRoom}
+use Rattle.refusal.specs.Answers.{Answer}
+use Rattle.std.specs.Prelude.{Ok, Err}
+use Rattle.refusal.specs.declared.Refusal.TheVariants.{BadCommittee, BadShape, AuthorityReuse, NoRoom}
 
 -- voters: how many in one byte, then 32 keys, in the order counted
 abbrev pub voter_count : List ℕ → ℕ
@@ -36,20 +37,20 @@ unfoldable pub refuse : Answer → List ℕ → Vote
 refuse a t = record { answer = a; voters = t }
 
 unfoldable pub accept : Bool → List ℕ → List ℕ → Vote
-accept b t author = record { answer = elim b [ true ↦ Done 1 | false ↦ Done 0 ]; voters = with_voter t author }
+accept b t author = record { answer = elim b [ true ↦ Ok 1 | false ↦ Ok 0 ]; voters = with_voter t author }
 
 -- 10, 11, then a vote whose author was counted is 5, then 32 voters and a new one is 12
 unfoldable pub count_vote : List ℕ → List ℕ → List ℕ → Vote
 count_vote ms t author =
     elim (valid_members ms) [
-      | false ↦ refuse BadCommittee t
+      | false ↦ refuse (Err BadCommittee) t
       | true ↦
           elim (are_voters t && eqb (length author) 32) [
-            | false ↦ refuse BadShape t
+            | false ↦ refuse (Err BadShape) t
             | true ↦
                 elim (is_in author (voters_of t)) [
-                  | true ↦ refuse AuthorityReuse t
-                  | false ↦ elim (leb 32 (voter_count t)) [ true ↦ refuse NoRoom t | false ↦ accept (vote_reaches ms t author) t author ]
+                  | true ↦ refuse (Err AuthorityReuse) t
+                  | false ↦ elim (leb 32 (voter_count t)) [ true ↦ refuse (Err NoRoom) t | false ↦ accept (vote_reaches ms t author) t author ]
                 ]
           ]
     ]

@@ -8,8 +8,8 @@ ghost use Rattle.aggregators.specs.Weight.{digest_of};
 ghost use Rattle.aggregators.specs.Tallies.{digests};
 ghost use Rattle.aggregators.specs.Certificates.{pair_count, with_pair, empty_row, given, last_digests, certificate_shape, Gives, CountsIn, CountsCertificate};
 
-use crate::answers::Answer;
 use crate::rounds::{PAIR, PAIRS, Place, ROW};
+use refusal::Refusal;
 
 // The digest of a pair.
 pub fn digest_in<'a>(pair: &'a [u8]) -> &'a [u8]
@@ -26,11 +26,9 @@ fn put_digests(row: &[u8], from: usize, n: usize, out: &mut [u8])
     requires from_in_bounds { (n - from) * 32 ≤ length out.old }
     ensures { out.new ≡ splice out.old 0 (flat (digests (drop from (items 64 row.now 5 n)))) }
 {
-    let mut i: usize = from;
-    while i < n {
+    for i in from..n {
         let pair = wire::items::item(row, PAIR, PAIRS, i);
         wire::parts::put_bytes(out, (i - from) * 32, digest_in(pair));
-        i += 1;
     }
 }
 
@@ -195,27 +193,19 @@ pub fn count_certificate(
     origin: &[u8],
     digest: &[u8],
     out: &mut [u8],
-) -> Answer
+) -> Result<u32, Refusal>
     ensures { CountsCertificate members.now counts.old round origin.now digest.now out.old result counts.new out.new }
 {
     if !config::committee::valid_members(members) {
-        return Answer::BadCommittee;
+        return Err(Refusal::BadCommittee);
     }
     if !certificate_shape(counts, round, origin, digest, out) {
-        return Answer::BadShape;
+        return Err(Refusal::BadShape);
     }
-    let place = crate::rounds::place_for(counts, round as u32, origin);
+    let place = crate::rounds::place_for(counts, round as u32, origin)?;
     match place {
-        Place::Counted => Answer::Done(0),
-        Place::Full => Answer::NoRoom,
-        Place::Row(i) => Answer::Done(count_in_row(members, counts, i, origin, digest, out)),
-        Place::New => Answer::Done(count_in_new(
-            members,
-            counts,
-            round as u32,
-            origin,
-            digest,
-            out,
-        )),
+        Place::Counted => Ok(0),
+        Place::Row(i) => Ok(count_in_row(members, counts, i, origin, digest, out)),
+        Place::New => Ok(count_in_new(members, counts, round as u32, origin, digest, out)),
     }
 }

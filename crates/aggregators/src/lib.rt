@@ -1,7 +1,6 @@
 // Counting: votes to a certificate, certificates to the parents of the next round.
 #![tactic(auto)]
 
-pub mod answers; // what a count answers
 pub mod tally; // keys counted one by one: their weight, and where what is gathered begins
 pub mod votes; // the voters of a header
 pub mod rounds; // the certificates counted in each round: what is found there, and where one more is counted

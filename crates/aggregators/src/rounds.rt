@@ -7,7 +7,7 @@ ghost use Rattle.config.specs.Committee.{valid_members};
 ghost use Rattle.aggregators.specs.Weight.{is_in};
 ghost use Rattle.aggregators.specs.Certificates.{pair_count, pairs_of, of_round, few_pairs, are_counts, given_count, place_for};
 
-use wire::Found;
+use refusal::Refusal;
 
 pub const ROW: usize = 2053;
 
@@ -19,7 +19,6 @@ pub const PAIRS: usize = 5; // where a row's pairs begin
 #[derive(Drop)]
 pub enum Place {
     Counted, // its origin is counted in its round
-    Full, // there is no place
     Row(usize), // behind the pairs of this row
     New, // in a new row
 }
@@ -45,15 +44,7 @@ fn all_few(counts: &[u8]) -> bool
     requires { shaped 2053 counts.now ≡ true }
     ensures { result ≡ all_of few_pairs (rows_of 2053 counts.now) }
 {
-    let n = table::rows::count(counts);
-    let mut i: usize = 0;
-    while i < n {
-        if !has_few_pairs(table::rows::row(counts, ROW, i)) {
-            return false;
-        }
-        i += 1;
-    }
-    true
+    table::rows::rows(counts, ROW).all(|row| has_few_pairs(row))
 }
 
 // Whether the bytes are a table of such rows.
@@ -75,19 +66,11 @@ fn is_of_round(row: &[u8], round: u32) -> bool
 }
 
 // The first row of a round.
-pub fn find_round(counts: &[u8], round: u32) -> Found
+pub fn find_round(counts: &[u8], round: u32) -> Option<usize>
     requires { shaped 2053 counts.now ≡ true }
     ensures { result ≡ first_of (of_round round) (rows_of 2053 counts.now) 0 }
 {
-    let n = table::rows::count(counts);
-    let mut i: usize = 0;
-    while i < n {
-        if is_of_round(table::rows::row(counts, ROW, i), round) {
-            return Found::At(i);
-        }
-        i += 1;
-    }
-    Found::Nothing
+    table::rows::rows(counts, ROW).position(|row| is_of_round(row, round))
 }
 
 // Whether an origin is counted in a row.
@@ -101,25 +84,25 @@ pub fn has_origin(row: &[u8], origin: &[u8]) -> bool
 }
 
 // Where a certificate of the origin is counted.
-pub fn place_for(counts: &[u8], round: u32, origin: &[u8]) -> Place
+pub fn place_for(counts: &[u8], round: u32, origin: &[u8]) -> Result<Place, Refusal>
     requires counts_value { are_counts counts.now ≡ true }
     requires origin_len { length origin.now ≡ 32 }
     ensures { result ≡ place_for counts.now round origin.now }
 {
-    let Found::At(i) = find_round(counts, round) else {
+    let Some(i) = find_round(counts, round) else {
         if table::rows::room(counts, ROW) {
-            return Place::New;
+            return Ok(Place::New);
         }
-        return Place::Full;
+        return Err(Refusal::NoRoom);
     };
     let row = table::rows::row(counts, ROW, i);
     if has_origin(row, origin) {
-        return Place::Counted;
+        return Ok(Place::Counted);
     }
     if 32 <= pair_count(row) {
-        return Place::Full;
+        return Err(Refusal::NoRoom);
     }
-    Place::Row(i)
+    Ok(Place::Row(i))
 }
 
 // How many digests a row gives with a certificate of the origin more: at quorum those gathered and the new one.

@@ -5,8 +5,6 @@ ghost use Rattle.config.specs.Committee.{valid_members};
 ghost use Rattle.aggregators.specs.Weight.{is_in, quorum_in, stake_by, enough};
 ghost use Rattle.aggregators.specs.Tallies.{fresh, counted, tally_after};
 
-use wire::Found;
-
 // The weight since quorum was last reached, and the place of the first key counted since.
 #[derive(Drop)]
 pub struct Tally {
@@ -29,7 +27,7 @@ pub fn has_key(list: &[u8], size: usize, at: usize, n: usize, key: &[u8]) -> boo
     requires key_len { length key.now ≡ 32 }
     ensures { result ≡ is_in key.now (items size list.now at n) }
 {
-    let Found::At(_) = wire::items::find(list, size, at, n, 0, key) else {
+    let Some(_) = wire::items::find(list, size, at, n, 0, key) else {
         return false;
     };
     true
@@ -62,11 +60,9 @@ pub fn count_keys(members: &[u8], list: &[u8], size: usize, at: usize, n: usize)
 {
     let quorum = config::committee::quorum_threshold(members);
     let mut t = Tally { weight: 0, from: 0 };
-    let mut i: usize = 0;
-    while i < n {
+    for i in 0..n {
         let stake = config::committee::stake(members, key(wire::items::item(list, size, at, i)));
         t = count_one(t, quorum, stake, i + 1);
-        i += 1;
     }
     t
 }

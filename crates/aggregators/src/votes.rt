@@ -4,7 +4,7 @@ ghost use Rattle.config.specs.Committee.{valid_members};
 ghost use Rattle.aggregators.specs.Weight.{is_in};
 ghost use Rattle.aggregators.specs.Votes.{voter_count, voters_of, with_voter, are_voters, votes_weight, vote_reaches, CountsVote};
 
-use crate::answers::Answer;
+use refusal::Refusal;
 
 pub const VOTERS: usize = 1025;
 
@@ -70,28 +70,28 @@ pub fn put_voter(voters: &mut [u8], author: &[u8])
 }
 
 // Counts a vote: 1 where it makes a certificate, else 0.
-pub fn count_vote(members: &[u8], voters: &mut [u8], author: &[u8]) -> Answer
+pub fn count_vote(members: &[u8], voters: &mut [u8], author: &[u8]) -> Result<u32, Refusal>
     ensures { CountsVote members.now voters.old author.now result voters.new }
 {
     if !config::committee::valid_members(members) {
-        return Answer::BadCommittee;
+        return Err(Refusal::BadCommittee);
     }
     if !voters_shape(voters) {
-        return Answer::BadShape;
+        return Err(Refusal::BadShape);
     }
     if author.len() != 32 {
-        return Answer::BadShape;
+        return Err(Refusal::BadShape);
     }
     if has_voted(voters, author) {
-        return Answer::AuthorityReuse;
+        return Err(Refusal::AuthorityReuse);
     }
     if 32 <= voter_count(voters) {
-        return Answer::NoRoom;
+        return Err(Refusal::NoRoom);
     }
     let reached = reaches(members, voters, author);
     put_voter(voters, author);
     if reached {
-        return Answer::Done(1);
+        return Ok(1);
     }
-    Answer::Done(0)
+    Ok(0)
 }

@@ -9,69 +9,32 @@ use lib.ListN.{length, get_or}
 use borrow.Author.Tests.{lt-ltb, le-ltb, le-leb, lt-leb, not-true, not-false}
 use Rattle.wire.specs.Items.{items, item_in, all_of}
 use Rattle.wire.proofs.Laws.{length_part}
-use Rattle.wire.proofs.Lists.{Testing, testing-start, item-is, item-fits, item-length, all-at}
+use Rattle.wire.proofs.Lists.{item-is, item-fits, item-length, all-at}
 use Rattle.config.specs.Members.{members_of, worker_count, has_worker, lawful}
 use Rattle.config.specs.Committee.{valid_members, standing_of, stake_of}
 use Rattle.config.specs.declared.committee.Standing.{Standing}
-use Rattle.config.specs.declared.committee.Standing.TheVariants.{Member, Stranger}
+use Rattle.std.specs.Prelude.{Option, Some, None}
 use Rattle.config.proofs.Laws.{valid, members-are, members-fit, length-members, lawful-workers, standing-below}
 use Rattle.messages.specs.Header.{author_of, payload_count, payload_of, worker_in, header_shape}
 use Rattle.messages.specs.Vote.{vote_author, vote_shape}
 use Rattle.messages.specs.Certificate.{header_of, certificate_shape}
 use Rattle.messages.proofs.Laws.{header-length, header-payload, vote-length, certificate-headed}
-use Rattle.checks.specs.Answers.{code_of, ensure, and_then}
+use Rattle.checks.specs.Answers.{ensure, and_then}
 use Rattle.checks.specs.Header.{has_stake, works_for, workers_known, header_checks, header_check}
 use Rattle.checks.specs.Vote.{vote_checks, vote_check}
 use Rattle.checks.specs.Certificate.{votes_checks, certificate_checks, certificate_check}
-use Rattle.checks.specs.declared.answers.Answer.{Answer}
-use Rattle.checks.specs.declared.answers.Answer.TheVariants.{Done, BadCommittee, BadShape, InvalidHeaderId, UnknownAuthority, MalformedHeader, InvalidSignature, AuthorityReuse, CertificateRequiresQuorum}
-
--- ---- the numbers
-module _ (a : Answer) where
-  pub code-done : (n : ℕ) → a ≡ Done n → 256 * n ≡ code_of a
-  unfolding code_of
-  code-done n e = rw e (omega arith)
-
-  pub code-10 : a ≡ BadCommittee → 10 ≡ code_of a
-  unfolding code_of
-  code-10 e = rw e
-
-  pub code-11 : a ≡ BadShape → 11 ≡ code_of a
-  unfolding code_of
-  code-11 e = rw e
-
-  pub code-1 : a ≡ InvalidHeaderId → 1 ≡ code_of a
-  unfolding code_of
-  code-1 e = rw e
-
-  pub code-2 : a ≡ UnknownAuthority → 2 ≡ code_of a
-  unfolding code_of
-  code-2 e = rw e
-
-  pub code-3 : a ≡ MalformedHeader → 3 ≡ code_of a
-  unfolding code_of
-  code-3 e = rw e
-
-  pub code-4 : a ≡ InvalidSignature → 4 ≡ code_of a
-  unfolding code_of
-  code-4 e = rw e
-
-  pub code-5 : a ≡ AuthorityReuse → 5 ≡ code_of a
-  unfolding code_of
-  code-5 e = rw e
-
-  pub code-7 : a ≡ CertificateRequiresQuorum → 7 ≡ code_of a
-  unfolding code_of
-  code-7 e = rw e
+use Rattle.refusal.specs.Answers.{Answer}
+use Rattle.refusal.specs.declared.Refusal.{Refusal}
+use Rattle.std.specs.Prelude.{Ok, Err}
+use Rattle.refusal.specs.declared.Refusal.TheVariants.{BadCommittee, BadShape, InvalidHeaderId, UnknownAuthority, MalformedHeader, InvalidSignature, AuthorityReuse, CertificateRequiresQuorum}
 
 -- ---- workers
 pub works-is : (member p : List ℕ) (w : ℕ) (b : Bool) → w ≡ worker_in p → b ≡ has_worker w member → b ≡ works_for member p
 unfolding works_for
 works-is member p w b e f = f ∙ rw e
 
-module _ (member h : List ℕ) (n : ℕ) (s : header_shape h ≡ true) (e : n ≡ payload_count h) where
-  pub workers-start : Testing 36 (works_for member) h 1098 n 0
-  workers-start = testing-start 36 (works_for member) h 1098 n (omega (arith, header-length h s, header-payload h s))
+pub payload-fits : (h : List ℕ) (n : ℕ) → header_shape h ≡ true → n ≡ payload_count h → 1098 + n * 36 ≤ length h
+payload-fits h n s e = omega (arith, header-length h s, header-payload h s)
 
 pub workers-are : (member h : List ℕ) (n : ℕ) (b : Bool) → n ≡ payload_count h → b ≡ all_of (works_for member) (items 36 h 1098 n) → b ≡ all_of (works_for member) (payload_of h)
 unfolding payload_of
@@ -81,17 +44,20 @@ pub author-32 : (h a : List ℕ) → header_shape h ≡ true → a ≡ author_of
 unfolding author_of
 author-32 h a s e = ap length e ∙ length_part h 32 32 (omega (arith, header-length h s))
 
-module _ (ms h a : List ℕ) (x : Standing) (ea : a ≡ author_of h) (e : x ≡ standing_of (members_of ms) a) where
+module _ (ms h a : List ℕ) (x : Option Standing) (ea : a ≡ author_of h) (e : x ≡ standing_of (members_of ms) a) where
   standing : standing_of (members_of ms) (author_of h) ≡ x
   standing = rw (← ea) (sym e)
 
-  pub workers-stranger : x ≡ Stranger → false ≡ workers_known (members_of ms) h
+  pub workers-stranger : x ≡ None → false ≡ workers_known (members_of ms) h
   unfolding workers_known
   workers-stranger g = sym (rw (standing ∙ g, workers_known))
 
-  module _ (v : valid_members ms ≡ true) (i s : ℕ) (g : x ≡ Member i s) where
+  module _ (v : valid_members ms ≡ true) (m : Standing) (g : x ≡ Some m) where
+    abbrev i : ℕ
+    i = m.place
+
     below : i < length ms / 69
-    below = omega (arith, standing-below (members_of ms) a i s (sym e ∙ g), length-members ms)
+    below = omega (arith, standing-below (members_of ms) a m (sym e ∙ g), length-members ms)
 
     pub author-fits : 0 + i * 69 + 69 ≤ length ms
     author-fits = item-fits 69 ms 0 (length ms / 69) (members-fit ms (length ms / 69) refl) i below
@@ -129,26 +95,26 @@ stake-some ms k key w e f z = lt-ltb 0 (stake_of ms key) (rw (← e, ← f) (pos
 
 -- ---- a header's checks
 module _ (ms : List (List ℕ)) (h : List ℕ) (id_ok sig_ok : Bool) where
-  pub id_wrong : not id_ok ≡ true → InvalidHeaderId ≡ header_checks ms h id_ok sig_ok
+  pub id_wrong : not id_ok ≡ true → (Err InvalidHeaderId) ≡ header_checks ms h id_ok sig_ok
   unfolding header_checks ensure
   id_wrong n = rw (not-true id_ok n)
 
   module _ (n : not id_ok ≡ false) (a : List ℕ) (w : ℕ) (ea : a ≡ author_of h) (ew : w ≡ stake_of ms a) where
-    pub author-unknown : w ≡ 0 → UnknownAuthority ≡ header_checks ms h id_ok sig_ok
+    pub author-unknown : w ≡ 0 → (Err UnknownAuthority) ≡ header_checks ms h id_ok sig_ok
     unfolding header_checks ensure
     author-unknown z = rw (not-false id_ok n, stake-none ms a (author_of h) w ea ew z)
 
     module _ (z : w ≡ 0 → ⊥) (b : Bool) (eb : b ≡ workers_known ms h) where
-      pub workers-unknown : not b ≡ true → MalformedHeader ≡ header_checks ms h id_ok sig_ok
+      pub workers-unknown : not b ≡ true → (Err MalformedHeader) ≡ header_checks ms h id_ok sig_ok
       unfolding header_checks ensure
       workers-unknown m = rw (not-false id_ok n, stake-some ms a (author_of h) w ea ew z, sym eb ∙ not-true b m)
 
       module _ (m : not b ≡ false) where
-        pub signature-wrong : not sig_ok ≡ true → InvalidSignature ≡ header_checks ms h id_ok sig_ok
+        pub signature-wrong : not sig_ok ≡ true → (Err InvalidSignature) ≡ header_checks ms h id_ok sig_ok
         unfolding header_checks ensure
         signature-wrong o = rw (not-false id_ok n, stake-some ms a (author_of h) w ea ew z, sym eb ∙ not-false b m, not-true sig_ok o)
 
-        pub header-good : not sig_ok ≡ false → Done 0 ≡ header_checks ms h id_ok sig_ok
+        pub header-good : not sig_ok ≡ false → Ok 0 ≡ header_checks ms h id_ok sig_ok
         unfolding header_checks ensure
         header-good o = rw (not-false id_ok n, stake-some ms a (author_of h) w ea ew z, sym eb ∙ not-false b m, not-false sig_ok o)
 
@@ -158,25 +124,25 @@ unfolding vote_author
 voter-32 v a s e = ap length e ∙ length_part v 64 32 (omega (arith, vote-length v s))
 
 module _ (ms : List (List ℕ)) (v : List ℕ) (sig_ok : Bool) (a : List ℕ) (w : ℕ) (ea : a ≡ vote_author v) (ew : w ≡ stake_of ms a) where
-  pub vote-unknown : w ≡ 0 → UnknownAuthority ≡ vote_checks ms v sig_ok
+  pub vote-unknown : w ≡ 0 → (Err UnknownAuthority) ≡ vote_checks ms v sig_ok
   unfolding vote_checks ensure
   vote-unknown z = rw (stake-none ms a (vote_author v) w ea ew z)
 
   module _ (z : w ≡ 0 → ⊥) where
-    pub vote-unsigned : not sig_ok ≡ true → InvalidSignature ≡ vote_checks ms v sig_ok
+    pub vote-unsigned : not sig_ok ≡ true → (Err InvalidSignature) ≡ vote_checks ms v sig_ok
     unfolding vote_checks ensure
     vote-unsigned o = rw (stake-some ms a (vote_author v) w ea ew z, not-true sig_ok o)
 
-    pub vote-good : not sig_ok ≡ false → Done 0 ≡ vote_checks ms v sig_ok
+    pub vote-good : not sig_ok ≡ false → Ok 0 ≡ vote_checks ms v sig_ok
     unfolding vote_checks ensure
     vote-good o = rw (stake-some ms a (vote_author v) w ea ew z, not-false sig_ok o)
 
 -- ---- 10, then 11, then what is found
-bad : (t t' : Bool) (x : Answer) → t ≡ false → BadCommittee ≡ ensure t BadCommittee (ensure t' BadShape x)
+bad : (t t' : Bool) (x : Answer) → t ≡ false → (Err BadCommittee) ≡ ensure t BadCommittee (ensure t' BadShape x)
 unfolding ensure
 bad t t' x e = rw e
 
-misshapen : (t t' : Bool) (x : Answer) → t ≡ true → t' ≡ false → BadShape ≡ ensure t BadCommittee (ensure t' BadShape x)
+misshapen : (t t' : Bool) (x : Answer) → t ≡ true → t' ≡ false → (Err BadShape) ≡ ensure t BadCommittee (ensure t' BadShape x)
 unfolding ensure
 misshapen t t' x e f = rw (e, f)
 
@@ -191,20 +157,20 @@ is_false : (b x : Bool) → b ≡ x → not b ≡ true → x ≡ false
 is_false b x e n = sym e ∙ not-true b n
 
 module _ (ms h : List ℕ) (id_ok sig_ok : ℕ) (b : Bool) (e : b ≡ valid_members ms) where
-  pub header-10 : not b ≡ true → BadCommittee ≡ header_check ms h id_ok sig_ok
+  pub header-10 : not b ≡ true → (Err BadCommittee) ≡ header_check ms h id_ok sig_ok
   unfolding header_check
   header-10 n = bad _ _ _ (is_false b _ e n)
 
   module _ (n : not b ≡ false) (b' : Bool) (e' : b' ≡ header_shape h) where
-    pub header-11 : not b' ≡ true → BadShape ≡ header_check ms h id_ok sig_ok
+    pub header-11 : not b' ≡ true → (Err BadShape) ≡ header_check ms h id_ok sig_ok
     unfolding header_check
     header-11 n' = misshapen _ _ _ (is_true b _ e n) (rw (is_false b' _ e' n'))
 
-    pub header-11-id : 1 < id_ok → BadShape ≡ header_check ms h id_ok sig_ok
+    pub header-11-id : 1 < id_ok → (Err BadShape) ≡ header_check ms h id_ok sig_ok
     unfolding header_check
     header-11-id l = misshapen _ _ _ (is_true b _ e n) (simp (lt-leb id_ok 1 l, and-false))
 
-    pub header-11-signature : 1 < sig_ok → BadShape ≡ header_check ms h id_ok sig_ok
+    pub header-11-signature : 1 < sig_ok → (Err BadShape) ≡ header_check ms h id_ok sig_ok
     unfolding header_check
     header-11-signature l = misshapen _ _ _ (is_true b _ e n) (simp (lt-leb sig_ok 1 l, and-false))
 
@@ -213,16 +179,16 @@ module _ (ms h : List ℕ) (id_ok sig_ok : ℕ) (b : Bool) (e : b ≡ valid_memb
     header-found n' l l' r f = looked _ _ r _ (is_true b _ e n) (rw (is_true b' _ e' n', le-leb id_ok 1 l, le-leb sig_ok 1 l')) f
 
 module _ (ms v : List ℕ) (sig_ok : ℕ) (b : Bool) (e : b ≡ valid_members ms) where
-  pub vote-10 : not b ≡ true → BadCommittee ≡ vote_check ms v sig_ok
+  pub vote-10 : not b ≡ true → (Err BadCommittee) ≡ vote_check ms v sig_ok
   unfolding vote_check
   vote-10 n = bad _ _ _ (is_false b _ e n)
 
   module _ (n : not b ≡ false) (b' : Bool) (e' : b' ≡ vote_shape v) where
-    pub vote-11 : not b' ≡ true → BadShape ≡ vote_check ms v sig_ok
+    pub vote-11 : not b' ≡ true → (Err BadShape) ≡ vote_check ms v sig_ok
     unfolding vote_check
     vote-11 n' = misshapen _ _ _ (is_true b _ e n) (rw (is_false b' _ e' n'))
 
-    pub vote-11-signature : 1 < sig_ok → BadShape ≡ vote_check ms v sig_ok
+    pub vote-11-signature : 1 < sig_ok → (Err BadShape) ≡ vote_check ms v sig_ok
     unfolding vote_check
     vote-11-signature l = misshapen _ _ _ (is_true b _ e n) (simp (lt-leb sig_ok 1 l, and-false))
 
@@ -231,24 +197,24 @@ module _ (ms v : List ℕ) (sig_ok : ℕ) (b : Bool) (e : b ≡ valid_members ms
     vote-found n' l r f = looked _ _ r _ (is_true b _ e n) (rw (is_true b' _ e' n', le-leb sig_ok 1 l)) f
 
 module _ (ms c : List ℕ) (id_ok sig_ok batch_ok : ℕ) (b : Bool) (e : b ≡ valid_members ms) where
-  pub certificate-10 : not b ≡ true → BadCommittee ≡ certificate_check ms c id_ok sig_ok batch_ok
+  pub certificate-10 : not b ≡ true → (Err BadCommittee) ≡ certificate_check ms c id_ok sig_ok batch_ok
   unfolding certificate_check
   certificate-10 n = bad _ _ _ (is_false b _ e n)
 
   module _ (n : not b ≡ false) (b' : Bool) (e' : b' ≡ certificate_shape c) where
-    pub certificate-11 : not b' ≡ true → BadShape ≡ certificate_check ms c id_ok sig_ok batch_ok
+    pub certificate-11 : not b' ≡ true → (Err BadShape) ≡ certificate_check ms c id_ok sig_ok batch_ok
     unfolding certificate_check
     certificate-11 n' = misshapen _ _ _ (is_true b _ e n) (rw (is_false b' _ e' n'))
 
-    pub certificate-11-id : 1 < id_ok → BadShape ≡ certificate_check ms c id_ok sig_ok batch_ok
+    pub certificate-11-id : 1 < id_ok → (Err BadShape) ≡ certificate_check ms c id_ok sig_ok batch_ok
     unfolding certificate_check
     certificate-11-id l = misshapen _ _ _ (is_true b _ e n) (simp (lt-leb id_ok 1 l, and-false))
 
-    pub certificate-11-signature : 1 < sig_ok → BadShape ≡ certificate_check ms c id_ok sig_ok batch_ok
+    pub certificate-11-signature : 1 < sig_ok → (Err BadShape) ≡ certificate_check ms c id_ok sig_ok batch_ok
     unfolding certificate_check
     certificate-11-signature l = misshapen _ _ _ (is_true b _ e n) (simp (lt-leb sig_ok 1 l, and-false))
 
-    pub certificate-11-batch : 1 < batch_ok → BadShape ≡ certificate_check ms c id_ok sig_ok batch_ok
+    pub certificate-11-batch : 1 < batch_ok → (Err BadShape) ≡ certificate_check ms c id_ok sig_ok batch_ok
     unfolding certificate_check
     certificate-11-batch l = misshapen _ _ _ (is_true b _ e n) (simp (lt-leb batch_ok 1 l, and-false))
 
@@ -261,30 +227,14 @@ module _ (ms c : List ℕ) (id_ok sig_ok batch_ok : ℕ) (b : Bool) (e : b ≡ v
 pub certificate-headed-by : (c h : List ℕ) → certificate_shape c ≡ true → h ≡ header_of c → header_shape h ≡ true
 certificate-headed-by c h s e = ap header_shape e ∙ certificate-headed c s
 
--- an answer is not `Done`
-abbrev pub Refusal : Answer → Type 0
-Refusal a = (n : ℕ) → a ≡ Done n → ⊥
-
-refused : (a next : Answer) → Refusal a → a ≡ and_then a next
-unfolding and_then
-refused (Done n) next f = absurd (f n refl)
-refused BadCommittee next f = refl
-refused BadShape next f = refl
-refused InvalidHeaderId next f = refl
-refused UnknownAuthority next f = refl
-refused MalformedHeader next f = refl
-refused InvalidSignature next f = refl
-refused AuthorityReuse next f = refl
-refused CertificateRequiresQuorum next f = refl
-
 module _ (ms : List (List ℕ)) (c h : List ℕ) (id_ok sig_ok batch_ok : Bool) (a : Answer) (eh : h ≡ header_of c) (ea : a ≡ header_checks ms h id_ok sig_ok) where
   found : header_checks ms (header_of c) id_ok sig_ok ≡ a
   found = rw (← eh) (sym ea)
 
-  pub header_refused : Refusal a → a ≡ certificate_checks ms c id_ok sig_ok batch_ok
-  unfolding certificate_checks
-  header_refused f = rw found (refused a (votes_checks ms c batch_ok) f)
+  pub header_refused : (r : Refusal) → a ≡ Err r → Err r ≡ certificate_checks ms c id_ok sig_ok batch_ok
+  unfolding certificate_checks and_then
+  header_refused r e = sym (rw (found ∙ e))
 
-  pub header-passed : (n : ℕ) (r : Answer) → a ≡ Done n → r ≡ votes_checks ms c batch_ok → r ≡ certificate_checks ms c id_ok sig_ok batch_ok
+  pub header-passed : (n : ℕ) (r : Answer) → a ≡ Ok n → r ≡ votes_checks ms c batch_ok → r ≡ certificate_checks ms c id_ok sig_ok batch_ok
   unfolding certificate_checks and_then
   header-passed n r e f = f ∙ sym (rw (found ∙ e))

@@ -5,7 +5,7 @@ use Prim.Native.Nat.{ℕ}
 use Rattle.checks.specs.Header.{header_check}
 use Rattle.checks.specs.Vote.{vote_check}
 use Rattle.checks.specs.Certificate.{certificate_check}
-use Rattle.checks.specs.declared.answers.Answer.{Answer}
+use Rattle.refusal.specs.Answers.{Answer}
 
 pub header-check-same : (ms h : List ℕ) (id_ok sig_ok : ℕ) (r r' : Answer) → r ≡ header_check ms h id_ok sig_ok → r' ≡ header_check ms h id_ok sig_ok → r ≡ r'
 header-check-same ms h id_ok sig_ok r r' e e' = e ∙ sym e'

@@ -11,18 +11,18 @@ use lib.Seq.{drop-cons, drop-drop}
 use borrow.Author.Tests.{le-leb, lt-leb, not-true, not-false}
 use Rattle.wire.specs.Bytes.{part}
 use Rattle.wire.specs.Items.{chunks, items, item_in, first_of, has_part}
-use Rattle.wire.specs.declared.Found.{Found}
-use Rattle.wire.specs.declared.Found.TheVariants.{At, Nothing}
+use Rattle.std.specs.Prelude.{Option, Some, None}
 use Rattle.wire.proofs.Lists.{item-is, item-fits, item-length, length-items}
 use Rattle.config.specs.Committee.{total, quorum, stake_of}
 use Rattle.messages.specs.Certificate.{vote_count, voters_of, certificate_shape}
 use Rattle.messages.proofs.Laws.{certificate-length, certificate-votes}
 use Rattle.checks.specs.Answers.{ensure}
 use Rattle.checks.specs.Certificate.{among, weighed, votes_checks}
-use Rattle.checks.specs.declared.answers.Answer.TheVariants.{Done, UnknownAuthority, InvalidSignature, AuthorityReuse, CertificateRequiresQuorum}
+use Rattle.refusal.specs.Answers.{Answer}
+use Rattle.refusal.specs.declared.Refusal.{Refusal}
+use Rattle.std.specs.Prelude.{Ok, Err}
+use Rattle.refusal.specs.declared.Refusal.TheVariants.{UnknownAuthority, InvalidSignature, AuthorityReuse, CertificateRequiresQuorum}
 use Rattle.checks.proofs.Laws.{stake-none, stake-some}
-use Rattle.checks.specs.declared.certificate.Weighed.{Weighed}
-use Rattle.checks.specs.declared.certificate.Weighed.TheVariants.{Weight, Reused, Unknown}
 
 -- ---- the voters, one at a time
 chunks-more : (size : ℕ) (xs : List ℕ) (n : ℕ) → chunks size xs (suc n) ≡ chunks size xs n ++ (part xs (n * size) size ∷ [])
@@ -50,7 +50,7 @@ unfolding items chunks
 weighing-start ms c n s e = record { high = omega arith; few = omega (arith, certificate-votes c s); fits = omega (arith, certificate-length c s, certificate-votes c s); left = refl }
 
 module _ (ms : List (List ℕ)) (c : List ℕ) (n weight i : ℕ) (s : Weighing ms c n weight i) where
-  pub weighing-done : n ≡ vote_count c → n ≤ i → Weight weight ≡ weighed ms [] 0 (voters_of c)
+  pub weighing-done : n ≡ vote_count c → n ≤ i → Ok weight ≡ weighed ms [] 0 (voters_of c)
   unfolding voters_of weighed
   weighing-done e l =
       let z : drop i (items 32 c 3435 n) ≡ [] = drop_of_length-le (items 32 c 3435 n) {i = i} (omega (arith, length-items 32 c 3435 n)) in
@@ -75,13 +75,13 @@ module _ (ms : List (List ℕ)) (c : List ℕ) (n weight i : ℕ) (s : Weighing 
           drop-cons (items 32 c 3435 n) i [] (omega (arith, length-items 32 c 3435 n))
           ∙ rw (← item-is 32 c 3435 n s.fits i l, ← q, add-one)
 
-      module _ (f : Found) (ef : f ≡ first_of (has_part 0 v) (items 32 c 3435 i) 0) where
-        pub weighing-reused : n ≡ vote_count c → (j : ℕ) → f ≡ At j → Reused ≡ weighed ms [] 0 (voters_of c)
+      module _ (f : Option ℕ) (ef : f ≡ first_of (has_part 0 v) (items 32 c 3435 i) 0) where
+        pub weighing-reused : n ≡ vote_count c → (j : ℕ) → f ≡ Some j → Err AuthorityReuse ≡ weighed ms [] 0 (voters_of c)
         unfolding voters_of weighed among
         weighing-reused e j g = sym (rw (← e) (s.left ∙ rw (next, sym ef ∙ g, weighed)))
 
-        module _ (g : f ≡ Nothing) (w : ℕ) (ew : w ≡ stake_of ms v) where
-          pub weighing-unknown : n ≡ vote_count c → w ≡ 0 → Unknown ≡ weighed ms [] 0 (voters_of c)
+        module _ (g : f ≡ None) (w : ℕ) (ew : w ≡ stake_of ms v) where
+          pub weighing-unknown : n ≡ vote_count c → w ≡ 0 → Err UnknownAuthority ≡ weighed ms [] 0 (voters_of c)
           unfolding voters_of weighed among
           weighing-unknown e z = sym (rw (← e) (s.left ∙ rw (next, sym ef ∙ g, weighed, stake-none ms v v w refl ew z, weighed)))
 
@@ -97,25 +97,21 @@ module _ (ms : List (List ℕ)) (c : List ℕ) (n weight i : ℕ) (s : Weighing 
               }
 
 -- ---- then the quorum and the batch
-module _ (ms : List (List ℕ)) (c : List ℕ) (batch_ok : Bool) (x : Weighed) (e : x ≡ weighed ms [] 0 (voters_of c)) where
-  pub votes-reused : x ≡ Reused → AuthorityReuse ≡ votes_checks ms c batch_ok
+module _ (ms : List (List ℕ)) (c : List ℕ) (batch_ok : Bool) (x : Answer) (e : x ≡ weighed ms [] 0 (voters_of c)) where
+  pub votes_wrong : (r : Refusal) → x ≡ Err r → Err r ≡ votes_checks ms c batch_ok
   unfolding votes_checks
-  votes-reused g = sym (rw (sym e ∙ g, votes_checks))
+  votes_wrong r g = sym (rw (sym e ∙ g, votes_checks))
 
-  pub votes-unknown : x ≡ Unknown → UnknownAuthority ≡ votes_checks ms c batch_ok
-  unfolding votes_checks
-  votes-unknown g = sym (rw (sym e ∙ g, votes_checks))
-
-  module _ (w q : ℕ) (g : x ≡ Weight w) (eq : q ≡ quorum (total ms)) where
-    pub votes-few : w < q → CertificateRequiresQuorum ≡ votes_checks ms c batch_ok
+  module _ (w q : ℕ) (g : x ≡ Ok w) (eq : q ≡ quorum (total ms)) where
+    pub votes-few : w < q → (Err CertificateRequiresQuorum) ≡ votes_checks ms c batch_ok
     unfolding votes_checks ensure
     votes-few l = sym (rw (sym e ∙ g, votes_checks, ← eq, lt-leb q w l))
 
     module _ (l : q ≤ w) where
-      pub votes-unsigned : not batch_ok ≡ true → InvalidSignature ≡ votes_checks ms c batch_ok
+      pub votes-unsigned : not batch_ok ≡ true → (Err InvalidSignature) ≡ votes_checks ms c batch_ok
       unfolding votes_checks ensure
       votes-unsigned n = sym (rw (sym e ∙ g, votes_checks, ← eq, le-leb q w l, not-true batch_ok n))
 
-      pub votes-good : not batch_ok ≡ false → Done 0 ≡ votes_checks ms c batch_ok
+      pub votes-good : not batch_ok ≡ false → Ok 0 ≡ votes_checks ms c batch_ok
       unfolding votes_checks ensure
       votes-good n = sym (rw (sym e ∙ g, votes_checks, ← eq, le-leb q w l, not-false batch_ok n))

@@ -6,31 +6,29 @@ use Rattle.config.specs.Committee.{valid_members, total, quorum, stake_of}
 use Rattle.messages.specs.Certificate.{header_of, voters_of, certificate_shape}
 use Rattle.checks.specs.Answers.{ensure, and_then}
 use Rattle.checks.specs.Header.{has_stake, header_checks}
-use Rattle.checks.specs.declared.answers.Answer.{Answer}
-use Rattle.checks.specs.declared.answers.Answer.TheVariants.{Done, BadCommittee, BadShape, UnknownAuthority, InvalidSignature, AuthorityReuse, CertificateRequiresQuorum}
-use Rattle.checks.specs.declared.certificate.Weighed.{Weighed}
-use Rattle.checks.specs.declared.certificate.Weighed.TheVariants.{Weight, Reused, Unknown}
+use Rattle.refusal.specs.Answers.{Answer}
+use Rattle.std.specs.Prelude.{Ok, Err}
+use Rattle.refusal.specs.declared.Refusal.TheVariants.{BadCommittee, BadShape, UnknownAuthority, InvalidSignature, AuthorityReuse, CertificateRequiresQuorum}
 
 -- whether a key is among some
 unfoldable pub among : List ℕ → List (List ℕ) → Bool
 among key seen = some (first_of (has_part 0 key) seen 0)
 
 -- vote by vote 5 before 2: seen are the voters so far, and weight is their stake
-unfoldable pub weighed : List (List ℕ) → List (List ℕ) → ℕ → List (List ℕ) → Weighed
-weighed ms seen weight [] = Weight weight
+unfoldable pub weighed : List (List ℕ) → List (List ℕ) → ℕ → List (List ℕ) → Answer
+weighed ms seen weight [] = Ok weight
 weighed ms seen weight (v ∷ vs) =
     elim (among v seen) [
-      | true ↦ Reused
-      | false ↦ elim (has_stake ms v) [ true ↦ weighed ms (seen ++ (v ∷ [])) (weight + stake_of ms v) vs | false ↦ Unknown ]
+      | true ↦ Err AuthorityReuse
+      | false ↦ elim (has_stake ms v) [ true ↦ weighed ms (seen ++ (v ∷ [])) (weight + stake_of ms v) vs | false ↦ Err UnknownAuthority ]
     ]
 
 -- the votes, then quorum 7, then batch 4
 unfoldable pub votes_checks : List (List ℕ) → List ℕ → Bool → Answer
 votes_checks ms c batch_ok =
     elim (weighed ms [] 0 (voters_of c)) [
-      | Weight w ↦ ensure (leb (quorum (total ms)) w) CertificateRequiresQuorum (ensure batch_ok InvalidSignature (Done 0))
-      | Reused ↦ AuthorityReuse
-      | Unknown ↦ UnknownAuthority
+      | Ok w ↦ ensure (leb (quorum (total ms)) w) CertificateRequiresQuorum (ensure batch_ok InvalidSignature (Ok 0))
+      | Err e ↦ Err e
     ]
 
 -- the header's checks, then the votes'

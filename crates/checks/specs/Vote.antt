@@ -5,12 +5,13 @@ use Rattle.config.specs.Committee.{valid_members}
 use Rattle.messages.specs.Vote.{vote_author, vote_shape}
 use Rattle.checks.specs.Answers.{ensure}
 use Rattle.checks.specs.Header.{has_stake}
-use Rattle.checks.specs.declared.answers.Answer.{Answer}
-use Rattle.checks.specs.declared.answers.Answer.TheVariants.{Done, BadCommittee, BadShape, UnknownAuthority, InvalidSignature}
+use Rattle.refusal.specs.Answers.{Answer}
+use Rattle.std.specs.Prelude.{Ok, Err}
+use Rattle.refusal.specs.declared.Refusal.TheVariants.{BadCommittee, BadShape, UnknownAuthority, InvalidSignature}
 
 -- author 2, signature 4
 unfoldable pub vote_checks : List (List ℕ) → List ℕ → Bool → Answer
-vote_checks ms v sig_ok = ensure (has_stake ms (vote_author v)) UnknownAuthority (ensure sig_ok InvalidSignature (Done 0))
+vote_checks ms v sig_ok = ensure (has_stake ms (vote_author v)) UnknownAuthority (ensure sig_ok InvalidSignature (Ok 0))
 
 -- 10, then 11, then the checks
 unfoldable pub vote_check : List ℕ → List ℕ → ℕ → Answer

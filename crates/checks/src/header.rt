@@ -6,9 +6,9 @@ ghost use Rattle.config.specs.Committee.{valid_members};
 ghost use Rattle.messages.specs.Header.{payload_of, header_shape};
 ghost use Rattle.checks.specs.Header.{works_for, workers_known, header_checks, header_check};
 
-use crate::answers::Answer;
-use config::committee::Standing;
 use config::members::MEMBER;
+use messages::header::PAYLOAD;
+use refusal::Refusal;
 
 // Whether a member has a worker of a payload item's id.
 fn works_for(member: &[u8], item: &[u8]) -> bool
@@ -28,14 +28,7 @@ fn has_workers(member: &[u8], header: &[u8]) -> bool
     ensures { result ≡ all_of (works_for member.now) (payload_of header.now) }
 {
     let n = messages::header::payload_count(header);
-    let mut i: usize = 0;
-    while i < n {
-        if !works_for(member, messages::header::payload(header, i)) {
-            return false;
-        }
-        i += 1;
-    }
-    true
+    wire::items::items(header, 36, PAYLOAD, n).all(|item| works_for(member, item))
 }
 
 // Whether the author has a worker of each payload item's id.
@@ -45,48 +38,53 @@ fn workers_known(members: &[u8], header: &[u8]) -> bool
     ensures { result ≡ workers_known (members_of members.now) header.now }
 {
     let author = messages::header::author(header);
-    let Standing::Member(i, _) = config::committee::standing_of(members, author) else {
+    let Some(member) = config::committee::standing_of(members, author) else {
         return false;
     };
-    has_workers(wire::items::item(members, MEMBER, 0, i), header)
+    has_workers(wire::items::item(members, MEMBER, 0, member.place), header)
 }
 
 // The checks of a header of the right shape.
-pub fn header_checks(members: &[u8], header: &[u8], id_ok: bool, sig_ok: bool) -> Answer
+pub fn header_checks(
+    members: &[u8],
+    header: &[u8],
+    id_ok: bool,
+    sig_ok: bool,
+) -> Result<u32, Refusal>
     requires members_value { valid_members members.now ≡ true }
     requires header_value { header_shape header.now ≡ true }
     ensures { result ≡ header_checks (members_of members.now) header.now id_ok sig_ok }
 {
     if !id_ok {
-        return Answer::InvalidHeaderId;
+        return Err(Refusal::InvalidHeaderId);
     }
     if config::committee::stake(members, messages::header::author(header)) == 0 {
-        return Answer::UnknownAuthority;
+        return Err(Refusal::UnknownAuthority);
     }
     if !workers_known(members, header) {
-        return Answer::MalformedHeader;
+        return Err(Refusal::MalformedHeader);
     }
     if !sig_ok {
-        return Answer::InvalidSignature;
+        return Err(Refusal::InvalidSignature);
     }
-    Answer::Done(0)
+    Ok(0)
 }
 
 // A header, with the verdicts on its id and its signature: 1 is yes, 0 is no.
-pub fn header_check(members: &[u8], header: &[u8], id_ok: u8, sig_ok: u8) -> Answer
+pub fn header_check(members: &[u8], header: &[u8], id_ok: u8, sig_ok: u8) -> Result<u32, Refusal>
     ensures { result ≡ header_check members.now header.now id_ok sig_ok }
 {
     if !config::committee::valid_members(members) {
-        return Answer::BadCommittee;
+        return Err(Refusal::BadCommittee);
     }
     if !messages::header::shape(header) {
-        return Answer::BadShape;
+        return Err(Refusal::BadShape);
     }
     if 1 < id_ok {
-        return Answer::BadShape;
+        return Err(Refusal::BadShape);
     }
     if 1 < sig_ok {
-        return Answer::BadShape;
+        return Err(Refusal::BadShape);
     }
     header_checks(members, header, id_ok == 1, sig_ok == 1)
 }

@@ -114,10 +114,8 @@ pub fn serve(
     requires table_in_bounds { length (serve depth (leaders_of n (held_of table.old) (rounds_of (drop h link.old)) k) (state_of state.old table.old)).list * 37 ≤ length list.old }
     ensures { Committed n depth state.old table.old list.old (leaders_of n (held_of table.old) (rounds_of (drop h link.old)) k) result state.new table.new list.new }
 {
-    let mut left = k;
     let mut at: usize = 0;
-    while 0 < left {
-        left -= 1;
+    for left in (0..k).rev() {
         let round = room::get_round(&link[h..], left);
         at += turn(
             state,

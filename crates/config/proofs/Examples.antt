@@ -10,7 +10,8 @@ use Rattle.config.specs.Members.{members_of, stake_in, worker_count, workers_in,
 use Rattle.config.specs.Committee.{total, valid_members, valid_setup, depth_of, standing_of, stake_of, leader_place}
 use Rattle.config.specs.Answers.{of_members, shaped_as, stake_answer, worker_of, worker_answer, leader_answer}
 use Rattle.config.specs.Sample.{id_bytes, member_with, members_with}
-use Rattle.config.specs.declared.answers.Answer.TheVariants.{Done, BadCommittee, BadShape}
+use Rattle.std.specs.Prelude.{Ok, Err}
+use Rattle.refusal.specs.declared.Refusal.TheVariants.{BadCommittee, BadShape}
 
 abbrev three : List ℕ
 three = members_with 1 (5 ∷ 6 ∷ 7 ∷ [])
@@ -54,16 +55,16 @@ limits =
     }
 
 pub record Looked : Type 0 where
-  pub member : stake_answer three (2 ∷ replicate 31 0) ≡ Done 6
-  pub stranger : stake_answer three (4 ∷ replicate 31 0) ≡ Done 0
-  pub key-cut : stake_answer three (2 ∷ replicate 30 0) ≡ BadShape
-  pub both-wrong : stake_answer [] (2 ∷ replicate 30 0) ≡ BadCommittee
-  pub worker : worker_answer (member_with 1 1 (3 ∷ 258 ∷ [])) (1 ∷ replicate 31 0) 258 ≡ Done 1
-  pub past-the-count : worker_answer (member_with 1 1 (3 ∷ 258 ∷ [])) (1 ∷ replicate 31 0) 0 ≡ Done 0
-  pub worker-over : worker_answer (member_with 1 1 []) (1 ∷ replicate 31 0) 4294967296 ≡ BadShape
-  pub leads : leader_answer three 7 ≡ Done 1
-  pub round-0 : leader_answer three 0 ≡ BadShape
-  pub round-over : leader_answer three 4294967296 ≡ BadShape
+  pub member : stake_answer three (2 ∷ replicate 31 0) ≡ Ok 6
+  pub stranger : stake_answer three (4 ∷ replicate 31 0) ≡ Ok 0
+  pub key-cut : stake_answer three (2 ∷ replicate 30 0) ≡ Err BadShape
+  pub both-wrong : stake_answer [] (2 ∷ replicate 30 0) ≡ Err BadCommittee
+  pub worker : worker_answer (member_with 1 1 (3 ∷ 258 ∷ [])) (1 ∷ replicate 31 0) 258 ≡ Ok 1
+  pub past-the-count : worker_answer (member_with 1 1 (3 ∷ 258 ∷ [])) (1 ∷ replicate 31 0) 0 ≡ Ok 0
+  pub worker-over : worker_answer (member_with 1 1 []) (1 ∷ replicate 31 0) 4294967296 ≡ Err BadShape
+  pub leads : leader_answer three 7 ≡ Ok 1
+  pub round-0 : leader_answer three 0 ≡ Err BadShape
+  pub round-over : leader_answer three 4294967296 ≡ Err BadShape
 
 pub looked : Looked
 unfolding stake_answer worker_answer worker_of leader_answer of_members shaped_as standing_of stake_of leader_place first_of has_part has_worker workers_in is_worker alike valid_members members_of lawful stake_in worker_count total sum_of all_of key_of keys ascends ascends_from less part word bytes chunks items id_bytes member_with members_with

@@ -9,15 +9,15 @@ use lib.Dec.{eqb, leb}
 use lib.ListN.{length, get_or, drop}
 use borrow.Author.Tests.{eq-eqb, ne_eqb, eqb-true, leb-true, le-leb, lt-leb, not-true, not-false}
 use Rattle.wire.specs.Bytes.{part, word}
-use Rattle.wire.specs.Items.{items, item_in, first_of, has_part, sum_of, all_of, keys, ascends}
-use Rattle.wire.specs.declared.Found.{Found}
-use Rattle.wire.specs.declared.Found.TheVariants.{At, Nothing}
+use Rattle.wire.specs.Items.{items, item_in, first_of, has_part, all_of, keys, ascends}
+use Rattle.std.specs.Option.{is_some}
 use Rattle.wire.proofs.Laws.{part-all, true-not-false}
-use Rattle.wire.proofs.Lists.{Seek, seek-start, seek-item, seek_hit, seek-miss, seek-done, length-items, first_found, found-fits, found-is, found-length}
+use Rattle.wire.proofs.Chains.{first-same}
+use Rattle.wire.proofs.Lists.{length-items, first_found, found-fits, found-is, found-length}
 use Rattle.config.specs.Members.{members_of, stake_in, worker_count, workers_in, is_worker, has_worker, lawful}
 use Rattle.config.specs.Committee.{total, quorum, validity, valid_members, depth_of, valid_setup, standing_of, stake_of, leader_place}
 use Rattle.config.specs.declared.committee.Standing.{Standing}
-use Rattle.config.specs.declared.committee.Standing.TheVariants.{Member, Stranger}
+use Rattle.std.specs.Prelude.{Option, Some, None}
 
 pub both : (a b : Bool) → a && b ≡ true → (a ≡ true) × (b ≡ true)
 both true b e = (refl, e)
@@ -49,36 +49,12 @@ pub lawful-workers : (member : List ℕ) → lawful member ≡ true → worker_c
 unfolding lawful
 lawful-workers member e = leb-true _ _ (both (leb 1 (stake_in member)) (leb (worker_count member) 8) e).1
 
--- the search for a worker
-pub worker-start : (id : ℕ) (member : List ℕ) (n : ℕ) → 69 ≤ length member → worker_count member ≤ 8 → n ≡ worker_count member → Seek 4 (is_worker id) member 37 n 0
-worker-start id member n h l e = seek-start 4 (is_worker id) member 37 n (omega arith)
-
-module _ (id : ℕ) (member : List ℕ) (n i : ℕ) (e : n ≡ worker_count member) (s : Seek 4 (is_worker id) member 37 n i) where
-  pub worker-none : n ≤ i → false ≡ has_worker id member
-  unfolding has_worker workers_in
-  worker-none l = let q = seek-done 4 (is_worker id) member 37 n i s l in rw (← e, ← q)
-
-  module _ (l : i < n) (r : List ℕ) (w : ℕ) (er : r ≡ item_in 4 member 37 i) (ew : w ≡ word (part r 0 4)) where
-    is : (b : Bool) → eqb w id ≡ b → is_worker id r ≡ b
-    unfolding is_worker
-    is b q = let p = part-all r 4 (seek-item 4 (is_worker id) member 37 n i s l r er) in rw (← p, ← ew) q
-
-    pub worker-found : w ≡ id → true ≡ has_worker id member
-    unfolding has_worker workers_in
-    worker-found q =
-        let h = seek_hit 4 (is_worker id) member 37 n i s l r (is_worker id r) er refl (is true (eq-eqb w id q)) in
-        rw (← e, ← h)
-
-    pub worker-next : (w ≡ id → ⊥) → Seek 4 (is_worker id) member 37 n (i + 1)
-    worker-next q = seek-miss 4 (is_worker id) member 37 n i s l r (is_worker id r) er refl (is false (ne_eqb w id q))
-
--- ---- sums and tests over the members
-pub total-is : (ms : List ℕ) (n t : ℕ) → n ≡ length ms / 69 → t ≡ sum_of stake_in (items 69 ms 0 n) → t ≡ total (members_of ms)
-unfolding total
-total-is ms n t e f = f ∙ ap (λ (z : List (List ℕ)). sum_of stake_in z) (members-are ms n e)
-
-pub lawful-is : (ms : List ℕ) (n : ℕ) (b : Bool) → n ≡ length ms / 69 → b ≡ all_of lawful (items 69 ms 0 n) → b ≡ all_of lawful (members_of ms)
-lawful-is ms n b e f = f ∙ ap (λ (z : List (List ℕ)). all_of lawful z) (members-are ms n e)
+-- the search for a worker: the first 4 bytes of an id are the id
+pub has-worker-is : (id : ℕ) (member : List ℕ) (n : ℕ) → 69 ≤ length member → worker_count member ≤ 8 → n ≡ worker_count member → is_some (first_of (λ w. eqb (word (part w 0 4)) id) (items 4 member 37 n) 0) ≡ has_worker id member
+unfolding has_worker workers_in is_worker
+has-worker-is id member n h l e =
+    let q = first-same 4 member 37 n (omega arith) (λ w. eqb (word (part w 0 4)) id) (is_worker id) (λ w k. rw (part-all w 4 k)) 0 in
+    rw (q, ← e)
 
 -- ---- the domain: one law for each way through the test
 module _ (ms : List ℕ) where
@@ -194,22 +170,22 @@ valid-setup s h =
     record { long = leb-true _ _ b.0; deep = leb-true _ _ b.1; members = a.1 }
 
 -- ---- what a key is
-module _ (ms key : List ℕ) (f : Found) (e : f ≡ first_of (has_part 0 key) (items 69 ms 0 (length ms / 69)) 0) where
+module _ (ms key : List ℕ) (f : Option ℕ) (e : f ≡ first_of (has_part 0 key) (items 69 ms 0 (length ms / 69)) 0) where
   found_in : f ≡ first_of (has_part 0 key) (members_of ms) 0
   found_in = e ∙ ap (λ (z : List (List ℕ)). first_of (has_part 0 key) z 0) (members-are ms (length ms / 69) refl)
 
-  pub stranger : f ≡ Nothing → Stranger ≡ standing_of (members_of ms) key
+  pub stranger : f ≡ None → None ≡ standing_of (members_of ms) key
   unfolding standing_of
   stranger g = sym (rw (sym found_in ∙ g, standing_of))
 
-  module _ (i : ℕ) (g : f ≡ At i) where
+  module _ (i : ℕ) (g : f ≡ Some i) where
     pub member-fits : 0 + i * 69 + 69 ≤ length ms
     member-fits = found-fits 69 (has_part 0 key) ms 0 (length ms / 69) f i e g (members-fit ms (length ms / 69) refl)
 
     pub member-reach : (r : List ℕ) → r ≡ item_in 69 ms 0 i → 36 ≤ length r
     member-reach r q = omega (arith, found-length 69 (has_part 0 key) ms 0 (length ms / 69) f i e g (members-fit ms (length ms / 69) refl) r q)
 
-    pub member : (r : List ℕ) (s : ℕ) → r ≡ item_in 69 ms 0 i → s ≡ stake_in r → Member i s ≡ standing_of (members_of ms) key
+    pub member : (r : List ℕ) (s : ℕ) → r ≡ item_in 69 ms 0 i → s ≡ stake_in r → Some (record { place = i; stake = s }) ≡ standing_of (members_of ms) key
     unfolding standing_of
     member r s q p =
         let w : r ≡ get_or (members_of ms) i [] =
@@ -217,25 +193,25 @@ module _ (ms key : List ℕ) (f : Found) (e : f ≡ first_of (has_part 0 key) (i
         ∙ ap (λ (z : List (List ℕ)). get_or z i []) (members-are ms (length ms / 69) refl) in
         sym (rw (sym found_in ∙ g, standing_of, ← w, ← p))
 
-module _ (ms key : List ℕ) (x : Standing) (e : x ≡ standing_of (members_of ms) key) where
-  pub stake-none : x ≡ Stranger → 0 ≡ stake_of (members_of ms) key
+module _ (ms key : List ℕ) (x : Option Standing) (e : x ≡ standing_of (members_of ms) key) where
+  pub stake-none : x ≡ None → 0 ≡ stake_of (members_of ms) key
   unfolding stake_of
   stake-none g = sym (rw (sym e ∙ g))
 
-  pub stake-some : (i s : ℕ) → x ≡ Member i s → s ≡ stake_of (members_of ms) key
+  pub stake-some : (m : Standing) → x ≡ Some m → m.stake ≡ stake_of (members_of ms) key
   unfolding stake_of
-  stake-some i s g = sym (rw (sym e ∙ g))
+  stake-some m g = sym (rw (sym e ∙ g))
 
 -- a member stands at a place of the list
-pub standing-below : (ms : List (List ℕ)) (key : List ℕ) (i s : ℕ) → standing_of ms key ≡ Member i s → i < length ms
+pub standing-below : (ms : List (List ℕ)) (key : List ℕ) (m : Standing) → standing_of ms key ≡ Some m → m.place < length ms
 unfolding standing_of
-standing-below ms key i s = go (first_of (has_part 0 key) ms 0) refl where
-  go : (f : Found) → first_of (has_part 0 key) ms 0 ≡ f → standing_of ms key ≡ Member i s → i < length ms
-  go (At j) e h =
+standing-below ms key m = go (first_of (has_part 0 key) ms 0) refl where
+  go : (f : Option ℕ) → first_of (has_part 0 key) ms 0 ≡ f → standing_of ms key ≡ Some m → m.place < length ms
+  go (Some j) e h =
       let y = first_found (has_part 0 key) ms 0 j e in
-      let q : j ≡ i = cc (rw (e, standing_of) at h) in
+      let q : j ≡ m.place = cc (rw (e, standing_of) at h) in
       omega (arith, y.at, y.within)
-  go Nothing e h = let z : ◌≡◌ {A = ℕ} 0 1 = cc (rw (e, standing_of) at h) in absurd (omega arith)
+  go None e h = let z : ◌≡◌ {A = ℕ} 0 1 = cc (rw (e, standing_of) at h) in absurd (omega arith)
 
 -- the leader's place is a place of the list
 pub leader-below : (n round r : ℕ) → 1 ≤ n → r ≡ leader_place n round → r < n

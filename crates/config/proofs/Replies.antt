@@ -11,32 +11,20 @@ use Rattle.wire.specs.Items.{item_in}
 use Rattle.wire.proofs.Lists.{all-at, item-fits, item-is, item-length}
 use Rattle.config.specs.Members.{members_of, worker_count, has_worker, lawful}
 use Rattle.config.specs.Committee.{valid_members, valid_setup, standing_of}
-use Rattle.config.specs.Answers.{code_of, of_members, shaped_as, setup_answer, worker_of}
+use Rattle.config.specs.Answers.{of_members, shaped_as, setup_answer, worker_of}
 use Rattle.config.specs.declared.committee.Standing.{Standing}
-use Rattle.config.specs.declared.committee.Standing.TheVariants.{Member, Stranger}
-use Rattle.config.specs.declared.answers.Answer.{Answer}
-use Rattle.config.specs.declared.answers.Answer.TheVariants.{Done, BadCommittee, BadShape}
+use Rattle.std.specs.Prelude.{Option, Some, None}
+use Rattle.refusal.specs.Answers.{Answer}
+use Rattle.std.specs.Prelude.{Ok, Err}
+use Rattle.refusal.specs.declared.Refusal.TheVariants.{BadCommittee, BadShape}
 use Rattle.config.proofs.Laws.{valid, valid-setup, members-are, members-fit, length-members, lawful-workers, standing-below}
-
--- ---- the numbers
-pub code-done : (a : Answer) (n : ℕ) → a ≡ Done n → 256 * n ≡ code_of a
-unfolding code_of
-code-done a n e = rw e (omega arith)
-
-pub code-committee : (a : Answer) → a ≡ BadCommittee → 10 ≡ code_of a
-unfolding code_of
-code-committee a e = rw e
-
-pub code_shape : (a : Answer) → a ≡ BadShape → 11 ≡ code_of a
-unfolding code_of
-code_shape a e = rw e
 
 -- ---- 10, then 11, then the answer
 pub is-valid : (ms : List ℕ) (b : Bool) → b ≡ valid_members ms → not b ≡ false → valid_members ms ≡ true
 is-valid ms b e h = sym e ∙ not-false b h
 
 module _ (ms : List ℕ) (b : Bool) (e : b ≡ valid_members ms) where
-  pub bad-members : (a : Answer) → not b ≡ true → BadCommittee ≡ of_members ms a
+  pub bad-members : (a : Answer) → not b ≡ true → (Err BadCommittee) ≡ of_members ms a
   unfolding of_members
   bad-members a h = sym (rw (sym e ∙ not-true b h, of_members))
 
@@ -44,7 +32,7 @@ module _ (ms : List ℕ) (b : Bool) (e : b ≡ valid_members ms) where
   unfolding of_members
   good-members x a h q = q ∙ sym (rw (sym e ∙ not-false b h, of_members))
 
-pub bad-shape : (t : Bool) (a : Answer) → t ≡ false → BadShape ≡ shaped_as t a
+pub bad-shape : (t : Bool) (a : Answer) → t ≡ false → (Err BadShape) ≡ shaped_as t a
 unfolding shaped_as
 bad-shape t a e = sym (rw (e, shaped_as))
 
@@ -52,8 +40,8 @@ pub good-shape : (t : Bool) (x a : Answer) → t ≡ true → x ≡ a → x ≡ 
 unfolding shaped_as
 good-shape t x a e q = q ∙ sym (rw (e, shaped_as))
 
-pub done : (m n : ℕ) → m ≡ n → Done m ≡ Done n
-done m n e = ap Done e
+pub done : (m n : ℕ) → m ≡ n → ◌≡◌ {A = Answer} (Ok m) (Ok n)
+done m n e = ap Ok e
 
 -- ---- the tests of shape
 module _ (key : List ℕ) (id : ℕ) where
@@ -78,11 +66,11 @@ module _ (round : ℕ) where
 
 -- ---- a setup
 module _ (s : List ℕ) (b : Bool) (e : b ≡ valid_setup s) where
-  pub setup-bad : not b ≡ true → BadCommittee ≡ setup_answer s
+  pub setup-bad : not b ≡ true → (Err BadCommittee) ≡ setup_answer s
   unfolding setup_answer
   setup-bad h = sym (rw (sym e ∙ not-true b h, setup_answer))
 
-  pub setup-good : not b ≡ false → Done ((length s - 8) / 69) ≡ setup_answer s
+  pub setup-good : not b ≡ false → Ok ((length s - 8) / 69) ≡ setup_answer s
   unfolding setup_answer
   setup-good h = sym (rw (sym e ∙ not-false b h, setup_answer, length-drop))
 
@@ -95,14 +83,17 @@ module _ (s : List ℕ) (b : Bool) (e : b ≡ valid_setup s) where
       rw length-drop at (valid (drop 8 s) v.members).few
 
 -- ---- a worker
-module _ (ms key : List ℕ) (id : ℕ) (x : Standing) (e : x ≡ standing_of (members_of ms) key) where
-  pub no_member : x ≡ Stranger → 0 ≡ worker_of (members_of ms) key id
+module _ (ms key : List ℕ) (id : ℕ) (x : Option Standing) (e : x ≡ standing_of (members_of ms) key) where
+  pub no_member : x ≡ None → 0 ≡ worker_of (members_of ms) key id
   unfolding worker_of
   no_member g = sym (rw (sym e ∙ g, worker_of))
 
-  module _ (h : valid_members ms ≡ true) (i s : ℕ) (g : x ≡ Member i s) where
+  module _ (h : valid_members ms ≡ true) (m : Standing) (g : x ≡ Some m) where
+    abbrev i : ℕ
+    i = m.place
+
     below : i < length ms / 69
-    below = omega (arith, standing-below (members_of ms) key i s (sym e ∙ g), length-members ms)
+    below = omega (arith, standing-below (members_of ms) key m (sym e ∙ g), length-members ms)
 
     pub worker-fits : 0 + i * 69 + 69 ≤ length ms
     worker-fits = item-fits 69 ms 0 (length ms / 69) (members-fit ms (length ms / 69) refl) i below

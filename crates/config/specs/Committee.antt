@@ -2,10 +2,9 @@
 use Rattle.std.specs.Prelude.{ℕ, ◌+◌, ◌*◌, ◌/◌, ◌%◌, Bool, ◌&&◌, List, [], length, get_or, drop, eqb, leb}
 use Rattle.wire.specs.Bytes.{part, word}
 use Rattle.wire.specs.Items.{first_of, has_part, sum_of, all_of, keys, ascends}
-use Rattle.wire.specs.declared.Found.TheVariants.{At, Nothing}
 use Rattle.config.specs.Members.{members_of, stake_in, lawful}
 use Rattle.config.specs.declared.committee.Standing.{Standing}
-use Rattle.config.specs.declared.committee.Standing.TheVariants.{Member, Stranger}
+use Rattle.std.specs.Prelude.{Option, Some, None}
 
 -- the total T of all stakes
 unfoldable pub total : List (List ℕ) → ℕ
@@ -36,13 +35,13 @@ unfoldable pub valid_setup : List ℕ → Bool
 valid_setup setup = leb 8 (length setup) && leb (depth_of setup) 4294967295 && valid_members (drop 8 setup)
 
 -- a key is a member at a place, with a stake, or a stranger
-unfoldable pub standing_of : List (List ℕ) → List ℕ → Standing
-standing_of ms key = elim (first_of (has_part 0 key) ms 0) [ At i ↦ Member i (stake_in (get_or ms i [])) | Nothing ↦ Stranger ]
+unfoldable pub standing_of : List (List ℕ) → List ℕ → Option Standing
+standing_of ms key = elim (first_of (has_part 0 key) ms 0) [ Some i ↦ Some (record { place = i; stake = stake_in (get_or ms i []) }) | None ↦ None ]
 
 -- a non-member's stake is 0
-abbrev pub stake_for : Standing → ℕ
-stake_for (Member i s) = s
-stake_for Stranger = 0
+abbrev pub stake_for : Option Standing → ℕ
+stake_for (Some m) = m.stake
+stake_for None = 0
 
 unfoldable pub stake_of : List (List ℕ) → List ℕ → ℕ
 stake_of ms key = stake_for (standing_of ms key)

@@ -2,8 +2,7 @@
 use Rattle.std.specs.Prelude.{ℕ, ◌/◌, Bool, true, false, ◌&&◌, List, length, get_or, eqb, leb}
 use Rattle.wire.specs.Bytes.{part, word}
 use Rattle.wire.specs.Items.{items, first_of}
-use Rattle.wire.specs.declared.Found.{Found}
-use Rattle.wire.specs.declared.Found.TheVariants.{At, Nothing}
+use Rattle.std.specs.Prelude.{Option, Some, None}
 
 -- all members of a list, in order
 unfoldable pub members_of : List ℕ → List (List ℕ)
@@ -22,9 +21,9 @@ workers_in member = items 4 member 37 (worker_count member)
 unfoldable pub is_worker : ℕ → List ℕ → Bool
 is_worker id w = eqb (word w) id
 
-abbrev pub some : Found → Bool
-some (At i) = true
-some Nothing = false
+abbrev pub some : Option ℕ → Bool
+some (Some i) = true
+some None = false
 
 -- whether a member has a worker of this id
 unfoldable pub has_worker : ℕ → List ℕ → Bool

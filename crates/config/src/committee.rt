@@ -6,13 +6,12 @@ ghost use Rattle.config.specs.Members.{members_of, lawful};
 ghost use Rattle.config.specs.Committee.{total, quorum, validity, leader_place, standing_of, stake_of, valid_members, valid_setup};
 
 use crate::members::MEMBER;
-use wire::Found;
 
-// What a key is to the committee.
-#[derive(Drop)]
-pub enum Standing {
-    Member(usize, u32), // its place, its stake
-    Stranger,
+// What a member is to the committee.
+#[derive(Clone, Copy, Debug, PartialEq, Eq)]
+pub struct Standing {
+    pub place: usize,
+    pub stake: u32,
 }
 
 // The sum of all stakes.
@@ -20,29 +19,19 @@ pub fn total_stake(members: &[u8]) -> u64
     requires { length members.now ≤ 2208 }
     ensures { result ≡ total (members_of members.now) }
 {
-    let n = members.len() / MEMBER;
-    let mut sum: u64 = 0;
-    let mut i: usize = 0;
-    while i < n {
-        sum += crate::members::stake_in(wire::items::item(members, MEMBER, 0, i)) as u64;
-        i += 1;
-    }
-    sum
+    members
+        .chunks_exact(MEMBER) // all of them
+        .map(|m| crate::members::stake_in(m) as u64)
+        .sum()
 }
 
 // Whether each member is lawful.
 fn all_lawful(members: &[u8]) -> bool
     ensures { result ≡ all_of lawful (members_of members.now) }
 {
-    let n = members.len() / MEMBER;
-    let mut i: usize = 0;
-    while i < n {
-        if !crate::members::is_lawful(wire::items::item(members, MEMBER, 0, i)) {
-            return false;
-        }
-        i += 1;
-    }
-    true
+    members
+        .chunks_exact(MEMBER)
+        .all(|m| crate::members::is_lawful(m))
 }
 
 // Whether a member list lies inside the domain; where it does not, that is refusal 10.
@@ -113,19 +102,17 @@ pub fn validity_threshold(members: &[u8]) -> u32
     ((total_stake(members) + 2) / 3) as u32
 }
 
-// What a key is to the committee.
-pub fn standing_of(members: &[u8], key: &[u8]) -> Standing
+// What a key is to the committee; a stranger is nothing.
+pub fn standing_of(members: &[u8], key: &[u8]) -> Option<Standing>
     requires { length key.now ≡ 32 }
     ensures { result ≡ standing_of (members_of members.now) key.now }
 {
     let n = members.len() / MEMBER;
-    let Found::At(i) = wire::items::find(members, MEMBER, 0, n, 0, key) else {
-        return Standing::Stranger;
-    };
-    Standing::Member(
-        i,
-        crate::members::stake_in(wire::items::item(members, MEMBER, 0, i)),
-    )
+    let place = wire::items::find(members, MEMBER, 0, n, 0, key)?;
+    Some(Standing {
+        place,
+        stake: crate::members::stake_in(wire::items::item(members, MEMBER, 0, place)),
+    })
 }
 
 // The stake of a key: a stranger has none.
@@ -133,10 +120,10 @@ pub fn stake(members: &[u8], key: &[u8]) -> u32
     requires { length key.now ≡ 32 }
     ensures { result ≡ stake_of (members_of members.now) key.now }
 {
-    let Standing::Member(_, s) = standing_of(members, key) else {
-        return 0;
-    };
-    s
+    match standing_of(members, key) {
+        Some(member) => member.stake,
+        None => 0,
+    }
 }
 
 // The place of the member whose turn it is to lead a round.

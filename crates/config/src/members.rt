@@ -37,13 +37,6 @@ pub fn has_worker(member: &[u8], id: u32) -> bool
     requires member_bound { worker_count member.now ≤ 8 }
     ensures { result ≡ has_worker id member.now }
 {
-    let n = worker_count(member);
-    let mut i: usize = 0;
-    while i < n {
-        if wire::numbers::read_u32(wire::items::item(member, 4, 37, i), 0) == id {
-            return true;
-        }
-        i += 1;
-    }
-    false
+    wire::items::items(member, 4, 37, worker_count(member)).any(|w| wire::numbers::read_u32(w, 0)
+        == id)
 }

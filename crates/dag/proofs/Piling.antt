@@ -185,7 +185,6 @@ pub record Putting (st t : List ℕ) (x : ℕ) (ps : List ℕ) (r m : ℕ) (p₀
   pub all : length ps ≡ m * 32
   pub same : items 32 ps 0 m ≡ (cert_at (held_of t) x).parents
   pub under : r ≡ (cert_at (held_of t) x).round - 1
-  pub high : k ≤ m
   pub sound : Sound p h f
   pub left : put_all (open_parents (lasts_of st) (held_of t) r (drop k (items 32 ps 0 m))) (pile_of p h f) ≡ put_all (open_parents (lasts_of st) (held_of t) r (items 32 ps 0 m)) (pile_of p₀ h₀ f₀)
   pub balance : h + ones f₀ ≡ h₀ + ones f
@@ -202,17 +201,12 @@ putting-start n st t x ps r m p h f s l e er em d =
       all = omega arith;
       same = flat_items (cert_at (held_of t) x).parents ps m z e em;
       under = er;
-      high = omega arith;
       sound = d;
       left = refl;
       balance = refl;
       pile = refl;
       marks = refl;
     }
-
--- counted up before it is used
-pub one-back : (k : ℕ) → k + 1 - 1 ≡ k
-one-back k = omega arith
 
 module _ (st t : List ℕ) (x : ℕ) (ps : List ℕ) (r m : ℕ) (p₀ : List ℕ) (h₀ : ℕ) (f₀ p : List ℕ) (h : ℕ) (f : List ℕ) (k : ℕ) (u : Putting st t x ps r m p₀ h₀ f₀ p h f k) where
   pub putting-done : m ≤ k → PutOn (put_all (parents_at (state_of st t) x)) p₀ h₀ f₀ p h f
@@ -231,18 +225,17 @@ module _ (st t : List ℕ) (x : ℕ) (ps : List ℕ) (r m : ℕ) (p₀ : List �
         marks = u.marks;
       }
 
-  pub putting-next : k < m → (i : ℕ) (p' : List ℕ) (h' : ℕ) (f' : List ℕ) → i ≡ k → PutOn (put_all (open_parents (lasts_of st) (held_of t) r (item_in 32 ps 0 i ∷ []))) p h f p' h' f'
+  pub putting-next : k < m → (p' : List ℕ) (h' : ℕ) (f' : List ℕ) → PutOn (put_all (open_parents (lasts_of st) (held_of t) r (item_in 32 ps 0 k ∷ []))) p h f p' h' f'
       → Putting st t x ps r m p₀ h₀ f₀ p' h' f' (k + 1)
-  putting-next l i p' h' f' e w =
+  putting-next l p' h' f' w =
       let ds : List (List ℕ) = items 32 ps 0 m in
-      let d : List ℕ = item_in 32 ps 0 i in
-      let g : d ≡ get_or ds k [] = ap (item_in 32 ps 0) e ∙ item-is 32 ps 0 m (omega (arith, u.all)) k l in
+      let d : List ℕ = item_in 32 ps 0 k in
+      let g : d ≡ get_or ds k [] = item-is 32 ps 0 m (omega (arith, u.all)) k l in
       let q : drop k ds ≡ d ∷ drop (k + 1) ds = drop-cons ds k [] (omega (arith, length-items 32 ps 0 m)) ∙ rw (add-one, ← g) in
       record {
         all = u.all;
         same = u.same;
         under = u.under;
-        high = omega arith;
         sound = w.sound;
         left =
             ap (put_all (open_parents (lasts_of st) (held_of t) r (drop (k + 1) ds))) w.is

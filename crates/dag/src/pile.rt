@@ -95,10 +95,8 @@ pub fn put_parents(
     let round = round_below(table, x);
     let m = parents.len() / 32;
     let mut top = h;
-    let mut k: usize = 0;
-    while k < m {
-        k += 1;
-        top = put_parent(state, table, n, round, parents, k - 1, pile, top, marks);
+    for k in 0..m {
+        top = put_parent(state, table, n, round, parents, k, pile, top, marks);
     }
     top
 }

@@ -1,9 +1,8 @@
 -- Document 01's 'Cases to stand on', the P lines: one table, and what it is that it holds. Assumes nothing.
-use Rattle.std.specs.Prelude.{◌≡◌, List, [], ◌∷◌, ◌++◌, ℕ, replicate}
+use Rattle.std.specs.Prelude.{◌≡◌, List, [], ◌∷◌, ◌++◌, ℕ, replicate, Ok, Err}
 use Rattle.config.specs.Sample.{members_with}
 use Rattle.config.specs.Answers.{quorum_answer, validity_answer}
-use Rattle.config.specs.declared.answers.Answer.{Answer}
-use Rattle.config.specs.declared.answers.Answer.TheVariants.{Done, BadCommittee, BadShape}
+use Rattle.refusal.specs.Answers.{Answer, number_of}
 use Rattle.consensus.specs.Table.{Cert}
 use Rattle.consensus.specs.Candidates.{edition1}
 use Rattle.consensus.specs.Sample.{at, run8, rest9, rest10, run11, silent, lists}
@@ -24,9 +23,8 @@ pub data Holds : List Case → Type 0 where
 
 -- an answer as a list: its value alone, or a refusal's number and 1000
 unfoldable pub said : Answer → List ℕ
-said (Done n) = n ∷ []
-said BadCommittee = 10 ∷ 1000 ∷ []
-said BadShape = 11 ∷ 1000 ∷ []
+said (Ok n) = n ∷ []
+said (Err e) = number_of e ∷ 1000 ∷ []
 
 -- quorum and validity of a committee with these stakes, beside those that document 01 gives for their total
 unfoldable pub thresholds : ℕ → List ℕ → ℕ → ℕ → Case

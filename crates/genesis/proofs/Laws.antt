@@ -1,8 +1,8 @@
 -- The laws of `specs/Genesis.antt`. Assumes nothing.
 use mathlib.Core.Path.{◌≡◌, refl, sym, ap, ◌∙◌}
-use mathlib.Core.Bool.{Bool, true, false, not}
+use mathlib.Core.Bool.{Bool, true, false, not, ◌&&◌}
 use mathlib.Core.List.{List, [], ◌∷◌}
-use Prim.Native.Nat.{ℕ, ◌+◌, ◌-◌, ◌*◌, ◌/◌, ◌≤◌, ◌<◌}
+use Prim.Native.Nat.{ℕ, zero, suc, ◌+◌, ◌-◌, ◌*◌, ◌/◌, ◌≤◌, ◌<◌}
 use native.Mathlib.Numerals.{add-one}
 use native.Mathlib.Omega.{arith}
 use lib.ListN.{length, drop, drop_of_length-le}
@@ -10,9 +10,11 @@ use lib.Seq.{drop-cons}
 use borrow.Author.Tests.{eq-eqb, ne_eqb, eqb-true, not-true, not-false}
 use Rattle.wire.specs.Bytes.{part, word, alike}
 use Rattle.wire.specs.Items.{items, item_in, first_of, has_part, key_of}
-use Rattle.wire.specs.declared.Found.{Found}
-use Rattle.wire.specs.declared.Found.TheVariants.{At, Nothing}
+use Rattle.std.specs.Prelude.{Option, Some, None}
+use Rattle.std.specs.List.{list_all, zip, range_with_len}
+use Rattle.std.specs.Option.{is_some}
 use Rattle.wire.proofs.Laws.{length_part}
+use Rattle.wire.proofs.Chains.{both-tests}
 use Rattle.wire.proofs.Lists.{item-is, item-length, length-items, items-drop}
 use Rattle.config.specs.Members.{members_of}
 use Rattle.config.proofs.Laws.{both, members-are, length-members}
@@ -29,105 +31,44 @@ module _ (member known : List ℕ) (round : ℕ) (e : round ≡ word (part known
   round-0 b h f = f ∙ sym (rw (eq-eqb (word (part known 0 4)) 0 (sym e ∙ h)))
 
 -- ---- one record per member
-paired-on : (m r : List ℕ) (ms rs : List (List ℕ)) → belongs m r ≡ true → paired (m ∷ ms) (r ∷ rs) ≡ paired ms rs
+pub paired-is : (ms rs : List (List ℕ)) → length ms ≡ length rs → list_all (λ (p : List ℕ × List ℕ). belongs p.0 p.1) (zip ms rs) ≡ paired ms rs
 unfolding paired
-paired-on m r ms rs h = rw (h, paired)
-
-paired-stop : (m r : List ℕ) (ms rs : List (List ℕ)) → belongs m r ≡ false → paired (m ∷ ms) (r ∷ rs) ≡ false
-unfolding paired
-paired-stop m r ms rs h = rw (h, paired)
-
-pub record Pairing (ms g : List ℕ) (n i : ℕ) : Type 0 where
-  pub high : i ≤ n
-  pub left : paired (items 69 ms 0 n) (items 68 g 0 n) ≡ paired (drop i (items 69 ms 0 n)) (drop i (items 68 g 0 n))
-
-pub pairing-start : (ms g : List ℕ) (n : ℕ) → Pairing ms g n 0
-pairing-start ms g n = record { high = omega arith; left = refl }
-
-module _ (ms g : List ℕ) (n i : ℕ) (s : Pairing ms g n i) where
-  pub pairing-done : n ≤ i → true ≡ paired (items 69 ms 0 n) (items 68 g 0 n)
-  unfolding paired
-  pairing-done l =
-      sym
-      (s.left
-      ∙ rw (drop_of_length-le (items 69 ms 0 n) {i = i} (omega (arith, length-items 69 ms 0 n)), drop_of_length-le (items 68 g 0 n) {i = i} (omega (arith, length-items 68 g 0 n))))
-
-  module _ (hm : n * 69 ≤ length ms) (hg : n * 68 ≤ length g) (l : i < n) where
-    pub pairing-member : 0 + i * 69 + 69 ≤ length ms
-    pairing-member = omega arith
-
-    pub pairing-record : 0 + i * 68 + 68 ≤ length g
-    pairing-record = omega arith
-
-    pub member-long : (m : List ℕ) → m ≡ item_in 69 ms 0 i → 32 ≤ length m
-    member-long m e = omega (arith, ap length e, item-length 69 ms 0 n (omega arith) i l)
-
-    pub record-long : (r : List ℕ) → r ≡ item_in 68 g 0 i → length r ≡ 68
-    record-long r e = ap length e ∙ item-length 68 g 0 n (omega arith) i l
-
-    module _ (m r : List ℕ) (b : Bool) (em : m ≡ item_in 69 ms 0 i) (er : r ≡ item_in 68 g 0 i) (eb : b ≡ belongs m r) where
-      next-pair : paired (drop i (items 69 ms 0 n)) (drop i (items 68 g 0 n)) ≡ paired (m ∷ drop (i + 1) (items 69 ms 0 n)) (r ∷ drop (i + 1) (items 68 g 0 n))
-      next-pair =
-          let p = em ∙ item-is 69 ms 0 n (omega arith) i l in
-          let q = er ∙ item-is 68 g 0 n (omega arith) i l in
-          rw (drop-cons (items 69 ms 0 n) i [] (omega (arith, length-items 69 ms 0 n)), drop-cons (items 68 g 0 n) i [] (omega (arith, length-items 68 g 0 n)), ← p, ← q, add-one)
-
-      pub pairing-no : not b ≡ true → false ≡ paired (items 69 ms 0 n) (items 68 g 0 n)
-      pairing-no h =
-          sym (s.left ∙ next-pair ∙ paired-stop m r (drop (i + 1) (items 69 ms 0 n)) (drop (i + 1) (items 68 g 0 n)) (sym eb ∙ not-true b h))
-
-      pub pairing-yes : not b ≡ false → Pairing ms g n (i + 1)
-      pairing-yes h =
-          record {
-            high = omega arith;
-            left = s.left ∙ next-pair ∙ paired-on m r (drop (i + 1) (items 69 ms 0 n)) (drop (i + 1) (items 68 g 0 n)) (sym eb ∙ not-false b h);
-          }
+paired-is [] [] e = refl
+paired-is [] (r ∷ rs) e = absurd (omega arith)
+paired-is (m ∷ ms) [] e = absurd (omega arith)
+paired-is (m ∷ ms) (r ∷ rs) e = ap (λ (b : Bool). belongs m r && b) (paired-is ms rs (omega arith)) ∙ both-tests (belongs m r) (paired ms rs)
 
 -- ---- all different
-distinct-on : (r : List ℕ) (rs : List (List ℕ)) → first_of (has_part 36 (record_digest r)) rs 0 ≡ Nothing → distinct (r ∷ rs) ≡ distinct rs
-unfolding distinct
-distinct-on r rs h = rw (h, distinct)
+-- whether no later record has the digest of record i
+abbrev pub alone : List ℕ → ℕ → ℕ → Bool
+alone g n i = not (is_some (first_of (has_part 36 (record_digest (item_in 68 g 0 i))) (items 68 g ((i + 1) * 68) (n - (i + 1))) 0))
 
-distinct-stop : (r : List ℕ) (rs : List (List ℕ)) (k : ℕ) → first_of (has_part 36 (record_digest r)) rs 0 ≡ At k → distinct (r ∷ rs) ≡ false
-unfolding distinct
-distinct-stop r rs k h = rw (h, distinct)
-
-pub record Differing (g : List ℕ) (n i : ℕ) : Type 0 where
-  pub high : i ≤ n
-  pub left : distinct (items 68 g 0 n) ≡ distinct (drop i (items 68 g 0 n))
-
-pub differing-start : (g : List ℕ) (n : ℕ) → Differing g n 0
-differing-start g n = record { high = omega arith; left = refl }
+none-later : (f : Option ℕ) (b : Bool) → (not (is_some f) && b) ≡ elim f [ Some i ↦ false | None ↦ b ]
+none-later (Some i) b = refl
+none-later None b = refl
 
 pub later-fits : (g : List ℕ) (n i : ℕ) → n * 68 ≤ length g → i < n → (i + 1) * 68 + (n - (i + 1)) * 68 ≤ length g
 later-fits g n i h l = omega arith
 
-module _ (g : List ℕ) (n i : ℕ) (s : Differing g n i) where
-  pub differing-done : n ≤ i → true ≡ distinct (items 68 g 0 n)
+module _ (g : List ℕ) (n : ℕ) (h : n * 68 ≤ length g) where
+  rest : (i : ℕ) → i < n → items 68 g ((i + 1) * 68) (n - (i + 1)) ≡ drop (i + 1) (items 68 g 0 n)
+  rest i l = sym (items-drop 68 g 0 n (i + 1) ((i + 1) * 68) (n - (i + 1)) (omega arith) (omega arith) refl)
+
+  split : (i : ℕ) → i < n → drop i (items 68 g 0 n) ≡ item_in 68 g 0 i ∷ drop (i + 1) (items 68 g 0 n)
+  split i l =
+      let q = item-is 68 g 0 n (omega arith) i l in
+      rw (drop-cons (items 68 g 0 n) i [] (omega (arith, length-items 68 g 0 n)), q, add-one)
+
+  alone-from : (m i : ℕ) → i + m ≡ n → list_all (alone g n) (range_with_len i m) ≡ distinct (drop i (items 68 g 0 n))
   unfolding distinct
-  differing-done l = sym (s.left ∙ rw (drop_of_length-le (items 68 g 0 n) {i = i} (omega (arith, length-items 68 g 0 n))))
+  alone-from zero i e = sym (ap distinct (drop_of_length-le (items 68 g 0 n) {i = i} (omega (arith, length-items 68 g 0 n))))
+  alone-from (suc m) i e =
+      ap (λ (b : Bool). alone g n i && b) (alone-from m (i + 1) (omega arith))
+      ∙ rw (rest i (omega arith)) (none-later (first_of (has_part 36 (record_digest (item_in 68 g 0 i))) (drop (i + 1) (items 68 g 0 n)) 0) (distinct (drop (i + 1) (items 68 g 0 n))))
+      ∙ sym (ap distinct (split i (omega arith)))
 
-  module _ (h : n * 68 ≤ length g) (l : i < n) (f : Found) (e : f ≡ first_of (has_part 36 (record_digest (item_in 68 g 0 i))) (items 68 g ((i + 1) * 68) (n - (i + 1))) 0) where
-    rest : items 68 g ((i + 1) * 68) (n - (i + 1)) ≡ drop (i + 1) (items 68 g 0 n)
-    rest = sym (items-drop 68 g 0 n (i + 1) ((i + 1) * 68) (n - (i + 1)) (omega arith) (omega arith) refl)
-
-    split : drop i (items 68 g 0 n) ≡ item_in 68 g 0 i ∷ drop (i + 1) (items 68 g 0 n)
-    split =
-        let q = item-is 68 g 0 n (omega arith) i l in
-        rw (drop-cons (items 68 g 0 n) i [] (omega (arith, length-items 68 g 0 n)), q, add-one)
-
-    in_rest : f ≡ first_of (has_part 36 (record_digest (item_in 68 g 0 i))) (drop (i + 1) (items 68 g 0 n)) 0
-    in_rest = e ∙ rw rest
-
-    pub differing-no : (k : ℕ) → f ≡ At k → false ≡ distinct (items 68 g 0 n)
-    differing-no k q = sym (s.left ∙ ap distinct split ∙ distinct-stop (item_in 68 g 0 i) (drop (i + 1) (items 68 g 0 n)) k (sym in_rest ∙ q))
-
-    pub differing-yes : f ≡ Nothing → Differing g n (i + 1)
-    differing-yes q =
-        record {
-          high = omega arith;
-          left = s.left ∙ ap distinct split ∙ distinct-on (item_in 68 g 0 i) (drop (i + 1) (items 68 g 0 n)) (sym in_rest ∙ q);
-        }
+  pub alone-all : list_all (alone g n) (range_with_len 0 n) ≡ distinct (items 68 g 0 n)
+  alone-all = alone-from n 0 (omega arith)
 
 -- ---- the whole
 pub whole-records : (g : List ℕ) (n : ℕ) → length g ≡ n * 68 → items 68 g 0 n ≡ records_of g
@@ -179,5 +120,5 @@ digest-length r d h e = ap length e ∙ length_part r 36 32 (omega arith)
 pub digest-fits : (r d : List ℕ) → length r ≡ 68 → d ≡ record_digest r → 36 + length d ≤ 68
 digest-fits r d h e = omega (arith, digest-length r d h e)
 
-pub later-is : (r d : List ℕ) (rs : List (List ℕ)) (f : Found) (x : List ℕ) → r ≡ x → d ≡ record_digest r → f ≡ first_of (has_part 36 d) rs 0 → f ≡ first_of (has_part 36 (record_digest x)) rs 0
+pub later-is : (r d : List ℕ) (rs : List (List ℕ)) (f : Option ℕ) (x : List ℕ) → r ≡ x → d ≡ record_digest r → f ≡ first_of (has_part 36 d) rs 0 → f ≡ first_of (has_part 36 (record_digest x)) rs 0
 later-is r d rs f x e q h = h ∙ rw (q, e)

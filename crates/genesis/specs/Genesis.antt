@@ -3,7 +3,7 @@
 use Rattle.std.specs.Prelude.{ℕ, ◌*◌, ◌/◌, Bool, true, false, ◌&&◌, List, [], ◌∷◌, length, eqb}
 use Rattle.wire.specs.Bytes.{part, word, alike}
 use Rattle.wire.specs.Items.{items, first_of, has_part, key_of}
-use Rattle.wire.specs.declared.Found.TheVariants.{At, Nothing}
+use Rattle.std.specs.Prelude.{Some, None}
 use Rattle.config.specs.Members.{members_of}
 
 unfoldable pub record_round : List ℕ → ℕ
@@ -33,7 +33,7 @@ paired (m ∷ ms) (r ∷ rs) = elim (belongs m r) [ true ↦ paired ms rs | fals
 -- the digests are all different: none of the later records has that of the first, and so on
 unfoldable pub distinct : List (List ℕ) → Bool
 distinct [] = true
-distinct (r ∷ rs) = elim (first_of (has_part 36 (record_digest r)) rs 0) [ At i ↦ false | Nothing ↦ distinct rs ]
+distinct (r ∷ rs) = elim (first_of (has_part 36 (record_digest r)) rs 0) [ Some i ↦ false | None ↦ distinct rs ]
 
 unfoldable pub valid_genesis : List ℕ → List ℕ → Bool
 valid_genesis ms g = eqb (length g) (length (members_of ms) * 68) && paired (members_of ms) (records_of g) && distinct (records_of g)

@@ -6,7 +6,6 @@ ghost use Rattle.wire.specs.Items.{items, item_in, first_of, has_part};
 ghost use Rattle.genesis.specs.Genesis.{record_digest, belongs, paired, distinct, valid_genesis};
 
 use config::members::MEMBER;
-use wire::Found;
 
 pub const RECORD: usize = 68;
 
@@ -36,21 +35,13 @@ fn all_of(members: &[u8], genesis: &[u8], n: usize) -> bool
     requires n_in_bounds_2 { n * 68 ≤ length genesis.now }
     ensures { result ≡ paired (items 69 members.now 0 n) (items 68 genesis.now 0 n) }
 {
-    let mut i: usize = 0;
-    while i < n {
-        if !is_of(
-            wire::items::item(members, MEMBER, 0, i),
-            wire::items::item(genesis, RECORD, 0, i),
-        ) {
-            return false;
-        }
-        i += 1;
-    }
-    true
+    wire::items::items(members, MEMBER, 0, n)
+        .zip(wire::items::items(genesis, RECORD, 0, n))
+        .all(|(member, known)| is_of(member, known))
 }
 
 // Where the first later record has the digest of record i.
-fn same_later(genesis: &[u8], n: usize, i: usize) -> Found
+fn same_later(genesis: &[u8], n: usize, i: usize) -> Option<usize>
     requires n_in_bounds { n * 68 ≤ length genesis.now }
     requires i_lt_n { i < n }
     ensures { result ≡ first_of (has_part 36 (record_digest (item_in 68 genesis.now 0 i))) (items 68 genesis.now ((i + 1) * 68) (n - (i + 1))) 0 }
@@ -71,14 +62,7 @@ fn all_different(genesis: &[u8], n: usize) -> bool
     requires { n * 68 ≤ length genesis.now }
     ensures { result ≡ distinct (items 68 genesis.now 0 n) }
 {
-    let mut i: usize = 0;
-    while i < n {
-        if let Found::At(_) = same_later(genesis, n, i) {
-            return false;
-        }
-        i += 1;
-    }
-    true
+    (0..n).all(|i| same_later(genesis, n, i).is_none())
 }
 
 // Whether genesis is that of these members.

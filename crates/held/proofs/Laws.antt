@@ -1,8 +1,8 @@
 -- The bytes of the commit table and of the state, read as the definitions have them. Assumes nothing.
 use mathlib.Core.Path.{◌≡◌, refl, sym, ap, ◌∙◌}
-use mathlib.Core.Bool.{Bool, true, false, not, ◌&&◌, ◌||◌}
+use mathlib.Core.Bool.{Bool, true, false, not, cond, ◌&&◌, ◌||◌}
 use mathlib.Core.List.{List, [], ◌∷◌, map, append-nil}
-use Prim.Native.Nat.{ℕ, zero, suc, ◌+◌, ◌-◌, ◌*◌, ◌/◌, ◌≤◌, ◌<◌, max}
+use Prim.Native.Nat.{ℕ, zero, suc, ◌+◌, ◌-◌, ◌*◌, ◌/◌, ◌≤◌, ◌<◌}
 use native.Mathlib.Nat.{le_of_suc-le-suc, not-suc-le-zero}
 use native.Mathlib.Numerals.{add-one}
 use native.Mathlib.Omega.{arith}
@@ -12,12 +12,16 @@ use lib.ListN.{length, get_or, take, drop, length-map, drop_of_length-le, length
 use lib.Seq.{drop-cons, take_at}
 use Rattle.wire.specs.Bytes.{part, alike}
 use Rattle.wire.specs.Items.{chunks, items, item_in, flat, has_part, first_of, all_of}
-use Rattle.wire.specs.declared.Found.{Found}
-use Rattle.wire.specs.declared.Found.TheVariants.{At, Nothing}
-use Rattle.wire.proofs.Laws.{length_part, part-all}
+use Rattle.std.specs.Prelude.{Option, Some, None, MatchOption}
+use Rattle.std.specs.Option.{unwrap_or, is_some}
+use Rattle.std.specs.List.{list_any, position_or_len, range_with_len}
+use Rattle.std.proofs.lemmas.List.Sums.{prefix_len-le-length}
+use Rattle.std.proofs.lemmas.List.FromFn.{length-range_with_len}
+use mathlib.Core.Logic.{⊎_elim}
+use Rattle.wire.proofs.Laws.{length_part, part-all, less-or-not}
 use Rattle.wire.proofs.Lists.{Sized, one, length-chunks, chunks-sized, chunks-flat, flat-chunks, length-flat, length-items, items-sized, all-at}
 use Rattle.table.specs.Rows.{count_of, shaped, rows_of, places, round_of, has_round_part}
-use Rattle.table.proofs.Laws.{is-long, few-rows, row_is, row_fits, row-length, rows_are}
+use Rattle.table.proofs.Laws.{is-long, few-rows, row_is, row_fits, row-length}
 use Rattle.room.specs.Numbers.{rounds_of}
 use Rattle.room.proofs.Laws.{length-rounds}
 use Rattle.config.proofs.Laws.{both}
@@ -167,14 +171,14 @@ module _ (n : ℕ) (t : List ℕ) (i : ℕ) (s : held_shape n t ≡ true) (h : i
 
 -- ---- naming a parent
 
-nothing-at : {i : ℕ} → Nothing ≡ At i → ⊥
+nothing-at : {i : ℕ} → None ≡ Some i → ⊥
 nothing-at e = let z : ◌≡◌ {A = ℕ} 0 1 = ap rank e in omega arith
   where
-    rank : Found → ℕ
-    rank Nothing = 0
-    rank (At j) = 1
+    rank : Option ℕ → ℕ
+    rank None = 0
+    rank (Some j) = 1
 
-at-inj : (i j : ℕ) → At i ≡ At j → i ≡ j
+at-inj : (i j : ℕ) → Some i ≡ Some j → i ≡ j
 at-inj i j e = cc
 
 has-is : (d x : List ℕ) → length d ≡ 32 → length x ≡ 32 → has_part 0 d x ≡ alike x d
@@ -182,21 +186,21 @@ unfolding has_part
 has-is d x ld lx = ap (λ (v : List ℕ). alike v d) (ap (part x 0) ld ∙ part-all x 32 lx)
 
 module _ (d : List ℕ) (ld : length d ≡ 32) where
-  in-first : (ds : List (List ℕ)) (j i : ℕ) → Sized 32 ds → first_of (has_part 0 d) ds j ≡ At i → is_in d ds ≡ true
+  in-first : (ds : List (List ℕ)) (j i : ℕ) → Sized 32 ds → first_of (has_part 0 d) ds j ≡ Some i → is_in d ds ≡ true
   unfolding first_of is_in
   in-first [] j i s e = absurd (nothing-at e)
   in-first (x ∷ ds) j i (one l s) e = go (in-first ds (suc j) i s) (alike x d) refl e
     where
-      go : (first_of (has_part 0 d) ds (suc j) ≡ At i → is_in d ds ≡ true) → (b : Bool) → alike x d ≡ b → first_of (has_part 0 d) (x ∷ ds) j ≡ At i → is_in d (x ∷ ds) ≡ true
+      go : (first_of (has_part 0 d) ds (suc j) ≡ Some i → is_in d ds ≡ true) → (b : Bool) → alike x d ≡ b → first_of (has_part 0 d) (x ∷ ds) j ≡ Some i → is_in d (x ∷ ds) ≡ true
       go ih true q e = rw (q, is_in)
       go ih false q e = let h : has_part 0 d x ≡ false = has-is d x ld l ∙ q in rw (q, is_in) (ih (rw (h, first_of) at e))
 
-  not_first : (ds : List (List ℕ)) (j : ℕ) → Sized 32 ds → first_of (has_part 0 d) ds j ≡ Nothing → is_in d ds ≡ false
+  not_first : (ds : List (List ℕ)) (j : ℕ) → Sized 32 ds → first_of (has_part 0 d) ds j ≡ None → is_in d ds ≡ false
   unfolding first_of is_in
   not_first [] j s e = refl
   not_first (x ∷ ds) j (one l s) e = go (not_first ds (suc j) s) (alike x d) refl e
     where
-      go : (first_of (has_part 0 d) ds (suc j) ≡ Nothing → is_in d ds ≡ false) → (b : Bool) → alike x d ≡ b → first_of (has_part 0 d) (x ∷ ds) j ≡ Nothing → is_in d (x ∷ ds) ≡ false
+      go : (first_of (has_part 0 d) ds (suc j) ≡ None → is_in d ds ≡ false) → (b : Bool) → alike x d ≡ b → first_of (has_part 0 d) (x ∷ ds) j ≡ None → is_in d (x ∷ ds) ≡ false
       go ih true q e = let h : has_part 0 d x ≡ true = has-is d x ld l ∙ q in absurd (nothing-at (sym (rw (h, first_of) at e)))
       go ih false q e = let h : has_part 0 d x ≡ false = has-is d x ld l ∙ q in rw (q, is_in) (ih (rw (h, first_of) at e))
 
@@ -209,14 +213,14 @@ flat_items ds ps s e =
     rw k (ap (λ (v : List ℕ). chunks 32 v (length ds)) (e ∙ sym (append-nil (flat ds))) ∙ chunks-flat 32 ds [] s)
 
 module _ (n : ℕ) (t : List ℕ) (i : ℕ) (s : held_shape n t ≡ true) (h : i < count_of t) (d ps : List ℕ) (ld : length d ≡ 32)
-    (e : ps ≡ flat (cert_at (held_of t) i).parents) (f : Found) (g : f ≡ first_of (has_part 0 d) (items 32 ps 0 (length ps / 32)) 0) where
+    (e : ps ≡ flat (cert_at (held_of t) i).parents) (f : Option ℕ) (g : f ≡ first_of (has_part 0 d) (items 32 ps 0 (length ps / 32)) 0) where
   found : f ≡ first_of (has_part 0 d) (cert_at (held_of t) i).parents 0
   found = g ∙ ap (λ (v : List (List ℕ)). first_of (has_part 0 d) v 0) (flat_items (cert_at (held_of t) i).parents ps (parents-sized n t i s h) e)
 
-  pub names-yes : (j : ℕ) → f ≡ At j → true ≡ is_in d (cert_at (held_of t) i).parents
+  pub names-yes : (j : ℕ) → f ≡ Some j → true ≡ is_in d (cert_at (held_of t) i).parents
   names-yes j q = sym (in-first d ld (cert_at (held_of t) i).parents 0 j (parents-sized n t i s h) (sym found ∙ q))
 
-  pub names-no : f ≡ Nothing → false ≡ is_in d (cert_at (held_of t) i).parents
+  pub names-no : f ≡ None → false ≡ is_in d (cert_at (held_of t) i).parents
   names-no q = sym (not_first d ld (cert_at (held_of t) i).parents 0 (parents-sized n t i s h) (sym found ∙ q))
 
 -- ---- finding a round and a digest
@@ -230,37 +234,49 @@ round-part r d row ld = go (eqb (round_of row) r) refl
     go false q = rw (q, has_round_part)
 
 module _ (r : ℕ) (d : List ℕ) (ld : length d ≡ 32) where
-  find_first : (rs : List (List ℕ)) (j i : ℕ) → first_of (has_round_part r 6 d) rs j ≡ At i → i ≡ j + find r d (map cert_of rs)
+  find_first : (rs : List (List ℕ)) (j i : ℕ) → first_of (has_round_part r 6 d) rs j ≡ Some i → i ≡ j + find r d (map cert_of rs)
   unfolding first_of find
   find_first [] j i e = absurd (nothing-at e)
   find_first (x ∷ rs) j i e = go (find_first rs (suc j) i) (eqb (cert_of x).round r && alike (cert_of x).digest d) refl e
     where
-      go : (first_of (has_round_part r 6 d) rs (suc j) ≡ At i → i ≡ suc j + find r d (map cert_of rs)) → (b : Bool) → (eqb (cert_of x).round r && alike (cert_of x).digest d) ≡ b
-          → first_of (has_round_part r 6 d) (x ∷ rs) j ≡ At i → i ≡ j + find r d (map cert_of (x ∷ rs))
+      go : (first_of (has_round_part r 6 d) rs (suc j) ≡ Some i → i ≡ suc j + find r d (map cert_of rs)) → (b : Bool) → (eqb (cert_of x).round r && alike (cert_of x).digest d) ≡ b
+          → first_of (has_round_part r 6 d) (x ∷ rs) j ≡ Some i → i ≡ j + find r d (map cert_of (x ∷ rs))
       go ih true q e = let h = round-part r d x ld ∙ q in rw (q, find) (sym (at-inj j i (rw (h, first_of) at e)) ∙ omega arith)
       go ih false q e = let h = round-part r d x ld ∙ q in rw (q, find) (ih (rw (h, first_of) at e) ∙ omega arith)
 
-  find-nothing : (rs : List (List ℕ)) (j : ℕ) → first_of (has_round_part r 6 d) rs j ≡ Nothing → length rs ≡ find r d (map cert_of rs)
+  find-nothing : (rs : List (List ℕ)) (j : ℕ) → first_of (has_round_part r 6 d) rs j ≡ None → length rs ≡ find r d (map cert_of rs)
   unfolding first_of find
   find-nothing [] j e = refl
   find-nothing (x ∷ rs) j e = go (find-nothing rs (suc j)) (eqb (cert_of x).round r && alike (cert_of x).digest d) refl e
     where
-      go : (first_of (has_round_part r 6 d) rs (suc j) ≡ Nothing → length rs ≡ find r d (map cert_of rs)) → (b : Bool) → (eqb (cert_of x).round r && alike (cert_of x).digest d) ≡ b
-          → first_of (has_round_part r 6 d) (x ∷ rs) j ≡ Nothing → length (x ∷ rs) ≡ find r d (map cert_of (x ∷ rs))
+      go : (first_of (has_round_part r 6 d) rs (suc j) ≡ None → length rs ≡ find r d (map cert_of rs)) → (b : Bool) → (eqb (cert_of x).round r && alike (cert_of x).digest d) ≡ b
+          → first_of (has_round_part r 6 d) (x ∷ rs) j ≡ None → length (x ∷ rs) ≡ find r d (map cert_of (x ∷ rs))
       go ih true q e = let h = round-part r d x ld ∙ q in absurd (nothing-at (sym (rw (h, first_of) at e)))
       go ih false q e = let h = round-part r d x ld ∙ q in rw (q, find) (ap suc (ih (rw (h, first_of) at e)))
 
-module _ (t : List ℕ) (n r : ℕ) (d : List ℕ) (e : n ≡ count_of t) (ld : length d ≡ 32) where
-  pub place_found : (i : ℕ) → At i ≡ first_of (has_round_part r 6 d) (items 1062 t 8 n) 0 → i ≡ find r d (held_of t)
-  unfolding held_of rows_of
-  place_found i q = find_first r d ld (rows_of 1062 t) 0 i (sym (q ∙ ap (λ (k : ℕ). first_of (has_round_part r 6 d) (items 1062 t 8 k) 0) e)) ∙ omega arith
+pub find-is : (t : List ℕ) (n r : ℕ) (d : List ℕ) (f : Option ℕ) (x : ℕ) → length d ≡ 32 → n ≡ count_of t → f ≡ first_of (has_round_part r 6 d) (rows_of 1062 t) 0 → x ≡ unwrap_or f n → x ≡ find r d (held_of t)
+unfolding held_of rows_of
+find-is t n r d None x ld e g q = q ∙ e ∙ sym (length-items 1062 t 8 (count_of t)) ∙ find-nothing r d ld (rows_of 1062 t) 0 (sym g)
+find-is t n r d (Some i) x ld e g q = q ∙ find_first r d ld (rows_of 1062 t) 0 i (sym g) ∙ omega arith
 
-  pub place_none : Nothing ≡ first_of (has_round_part r 6 d) (items 1062 t 8 n) 0 → n ≡ find r d (held_of t)
-  unfolding held_of rows_of
-  place_none q =
-      e
-      ∙ sym (length-items 1062 t 8 (count_of t))
-      ∙ find-nothing r d ld (rows_of 1062 t) 0 (sym (q ∙ ap (λ (k : ℕ). first_of (has_round_part r 6 d) (items 1062 t 8 k) 0) e))
+-- ---- a round held
+
+abbrev pub of_the_round : ℕ → List ℕ → Bool
+of_the_round r row = eqb (round_of row) r
+
+round-first : (r : ℕ) (rs : List (List ℕ)) (j : ℕ) → is_some (first_of (of_the_round r) rs j) ≡ not (is_empty (of_round r (map cert_of rs)))
+unfolding first_of of_round cert_of
+round-first r [] j = refl
+round-first r (row ∷ rs) j = go (round-first r rs (suc j)) (eqb (round_of row) r) refl
+  where
+    go : is_some (first_of (of_the_round r) rs (suc j)) ≡ not (is_empty (of_round r (map cert_of rs))) → (b : Bool) → eqb (round_of row) r ≡ b
+        → is_some (first_of (of_the_round r) (row ∷ rs) j) ≡ not (is_empty (of_round r (map cert_of (row ∷ rs))))
+    go ih true q = rw (q, first_of, of_round)
+    go ih false q = rw (q, first_of, of_round) ih
+
+pub rounds-are : (t : List ℕ) (r : ℕ) (b : Bool) → b ≡ is_some (first_of (of_the_round r) (rows_of 1062 t) 0) → b ≡ not (is_empty (of_round r (held_of t)))
+unfolding held_of
+rounds-are t r b e = e ∙ round-first r (rows_of 1062 t) 0
 
 -- ---- going over the table place by place
 
@@ -271,84 +287,31 @@ held-step t i h = rw add-one (drop-cons (held_of t) i none (rw (length-held t) h
 pub held-end : (t : List ℕ) (i : ℕ) → count_of t ≤ i → drop i (held_of t) ≡ []
 held-end t i h = drop_of_length-le (held_of t) {i = i} (rw (length-held t) h)
 
-pub record Rounds (t : List ℕ) (r n i : ℕ) : Type 0 where
-  pub all : n ≡ count_of t
-  pub high : i ≤ n
-  pub left : is_empty (of_round r (held_of t)) ≡ is_empty (of_round r (drop i (held_of t)))
-
-pub rounds-start : (t : List ℕ) (r n : ℕ) → n ≡ count_of t → Rounds t r n 0
-rounds-start t r n e = record { all = e; high = omega arith; left = refl }
-
-module _ (t : List ℕ) (r n i : ℕ) (s : Rounds t r n i) where
-  pub rounds-done : n ≤ i → false ≡ not (is_empty (of_round r (held_of t)))
-  unfolding of_round
-  rounds-done h =
-      let a = s.all in
-      let e : is_empty (of_round r (drop i (held_of t))) ≡ true = rw (held-end t i (omega arith)) in
-      sym (ap not (s.left ∙ e))
-
-  module _ (l : i < n) where
-    pub rounds-below : i < count_of t
-    rounds-below = let a = s.all in omega arith
-
-    step_is : of_round r (drop i (held_of t)) ≡ of_round r (cert_at (held_of t) i ∷ drop (i + 1) (held_of t))
-    step_is = ap (of_round r) (held-step t i rounds-below)
-
-    module _ (x : ℕ) (e : x ≡ (cert_at (held_of t) i).round) where
-      pub rounds-hit : x ≡ r → true ≡ not (is_empty (of_round r (held_of t)))
-      unfolding of_round
-      rounds-hit q =
-          let z : is_empty (of_round r (cert_at (held_of t) i ∷ drop (i + 1) (held_of t))) ≡ false = rw (eq-eqb (cert_at (held_of t) i).round r (sym e ∙ q), of_round) in
-          sym (ap not (s.left ∙ ap is_empty step_is ∙ z))
-
-      pub rounds-miss : (x ≡ r → ⊥) → Rounds t r n (i + 1)
-      unfolding of_round
-      rounds-miss q =
-          record {
-            all = s.all;
-            high = omega arith;
-            left = s.left ∙ ap is_empty step_is ∙ rw (ne_eqb (cert_at (held_of t) i).round r (λ z. q (e ∙ z)), of_round);
-          }
-
 -- the search for an origin and a round
-pub record Pairing (t : List ℕ) (o r n i : ℕ) : Type 0 where
-  pub all : n ≡ count_of t
-  pub high : i ≤ n
-  pub left : pair_place o r (held_of t) ≡ i + pair_place o r (drop i (held_of t))
+abbrev pub of_pair_at : List ℕ → ℕ → ℕ → ℕ → Bool
+of_pair_at t o r k = eqb (cert_at (held_of t) k).origin o && eqb (cert_at (held_of t) k).round r
 
-pub pairing-start : (t : List ℕ) (o r n : ℕ) → n ≡ count_of t → Pairing t o r n 0
-pairing-start t o r n e = record { all = e; high = omega arith; left = omega arith }
-
-module _ (t : List ℕ) (o r n i : ℕ) (s : Pairing t o r n i) where
-  pub pairing-done : n ≤ i → n ≡ pair_place o r (held_of t)
+module _ (t : List ℕ) (o r : ℕ) where
+  pair-from : (n a : ℕ) → a + n ≡ count_of t → position_or_len (of_pair_at t o r) (range_with_len a n) ≡ pair_place o r (drop a (held_of t))
   unfolding pair_place
-  pairing-done h =
-      let a = s.all in
-      let b = s.left in
-      let c = s.high in
-      let e : pair_place o r (drop i (held_of t)) ≡ 0 = rw (held-end t i (omega arith)) in
-      omega arith
+  pair-from zero a e = rw (held-end t a (omega arith))
+  pair-from (suc n) a e =
+      let i = pair-from n (a + 1) (omega arith) in
+      elim (of_pair_at t o r a) as (λ (b : Bool). cond (not b) (1 + position_or_len (of_pair_at t o r) (range_with_len (a + 1) n)) 0 ≡ elim b [ true ↦ 0 | false ↦ suc (pair_place o r (drop (a + 1) (held_of t))) ]) [ true ↦ refl | false ↦ omega arith ]
+      ∙ sym (ap (pair_place o r) (held-step t a (omega arith)))
 
-  module _ (l : i < n) where
-    pub pairing-below : i < count_of t
-    pairing-below = let a = s.all in omega arith
-
-    module _ (b : Bool) (e : b ≡ (eqb (cert_at (held_of t) i).origin o && eqb (cert_at (held_of t) i).round r)) where
-      pub pairing-hit : b ≡ true → i ≡ pair_place o r (held_of t)
-      unfolding pair_place
-      pairing-hit q =
-          let z : pair_place o r (cert_at (held_of t) i ∷ drop (i + 1) (held_of t)) ≡ 0 = rw (sym e ∙ q, pair_place) in
-          let y = ap (pair_place o r) (held-step t i pairing-below) in
-          let x = s.left in
-          omega arith
-
-      pub pairing-miss : b ≡ false → Pairing t o r n (i + 1)
-      unfolding pair_place
-      pairing-miss q =
-          let z : pair_place o r (cert_at (held_of t) i ∷ drop (i + 1) (held_of t)) ≡ suc (pair_place o r (drop (i + 1) (held_of t))) = rw (sym e ∙ q, pair_place) in
-          let y = ap (pair_place o r) (held-step t i pairing-below) in
-          let x = s.left in
-          record { all = s.all; high = omega arith; left = omega arith }
+  pub pair-is : (n x : ℕ) (f : Option ℕ) → n ≡ count_of t
+      → f ≡ cond (ltb (position_or_len (of_pair_at t o r) (range_with_len 0 n)) (length (range_with_len 0 n))) (Some (position_or_len (of_pair_at t o r) (range_with_len 0 n))) None
+      → x ≡ unwrap_or f n → x ≡ pair_place o r (held_of t)
+  pair-is n x f e g q =
+      let p : ℕ = position_or_len (of_pair_at t o r) (range_with_len 0 n) in
+      let l : ℕ = length (range_with_len 0 n) in
+      let i = pair-from n 0 (omega arith) in
+      let h = prefix_len-le-length (λ k. not (of_pair_at t o r k)) (range_with_len 0 n) in
+      let m = length-range_with_len 0 n in
+      q ∙ ap (λ (v : Option ℕ). unwrap_or v n) g
+      ∙ ⊎_elim (λ (w : p < l). let z = lt-ltb p l w in rw z) (λ (w : l ≤ p). let z = le-ltb p l w in rw z (omega arith)) (less-or-not p l)
+      ∙ i
 
 module _ (x o y r a b : ℕ) (e : x ≡ a) where
   pub other-origin : (x ≡ o → ⊥) → false ≡ (eqb a o && eqb b r)
@@ -378,38 +341,20 @@ module _ (t : List ℕ) (i : ℕ) (s : shaped 1062 t ≡ true) (h : i < count_of
 pub digest-reach : (t : List ℕ) (i : ℕ) → shaped 1062 t ≡ true → i < count_of t → (c : List ℕ) → c ≡ (cert_at (held_of t) i).digest → 0 + 32 ≤ length c
 digest-reach t i s h c e = let l = ap length e ∙ digest-length t i s h in omega arith
 
-pub record Clashing (t : List ℕ) (x : Cert) (n i : ℕ) : Type 0 where
-  pub all : n ≡ count_of t
-  pub high : i ≤ n
-  pub left : clash x (held_of t) ≡ clash x (drop i (held_of t))
+abbrev pub clashing_at : List ℕ → ℕ → ℕ → List ℕ → ℕ → Bool
+clashing_at t o r d k = alike (cert_at (held_of t) k).digest d && not (eqb (cert_at (held_of t) k).origin o && eqb (cert_at (held_of t) k).round r)
 
-pub clashing-start : (t : List ℕ) (x : Cert) (n : ℕ) → n ≡ count_of t → Clashing t x n 0
-clashing-start t x n e = record { all = e; high = omega arith; left = refl }
+module _ (t : List ℕ) (x : Cert) where
+  clash-from : (n a : ℕ) → a + n ≡ count_of t → list_any (clashing_at t x.origin x.round x.digest) (range_with_len a n) ≡ clash x (drop a (held_of t))
+  unfolding clash same_pair
+  clash-from zero a e = rw (held-end t a (omega arith))
+  clash-from (suc n) a e =
+      let i = clash-from n (a + 1) (omega arith) in
+      elim (clashing_at t x.origin x.round x.digest a) as (λ (b : Bool). (b || list_any (clashing_at t x.origin x.round x.digest) (range_with_len (a + 1) n)) ≡ elim b [ true ↦ true | false ↦ clash x (drop (a + 1) (held_of t)) ]) [ true ↦ refl | false ↦ i ]
+      ∙ sym (ap (clash x) (held-step t a (omega arith)))
 
-module _ (t : List ℕ) (x : Cert) (n i : ℕ) (s : Clashing t x n i) where
-  pub clashing-done : n ≤ i → false ≡ clash x (held_of t)
-  unfolding clash
-  clashing-done h =
-      let a = s.all in
-      let e : clash x (drop i (held_of t)) ≡ false = rw (held-end t i (omega arith)) in
-      sym (s.left ∙ e)
-
-  module _ (l : i < n) where
-    pub clashing-below : i < count_of t
-    clashing-below = let a = s.all in omega arith
-
-    module _ (b : Bool) (e : b ≡ (alike (cert_at (held_of t) i).digest x.digest && not (eqb (cert_at (held_of t) i).origin x.origin && eqb (cert_at (held_of t) i).round x.round))) where
-      pub clashing-hit : b ≡ true → true ≡ clash x (held_of t)
-      unfolding clash same_pair
-      clashing-hit q =
-          let z : clash x (cert_at (held_of t) i ∷ drop (i + 1) (held_of t)) ≡ true = rw (sym e ∙ q, clash) in
-          sym (s.left ∙ ap (clash x) (held-step t i clashing-below) ∙ z)
-
-      pub clashing-miss : b ≡ false → Clashing t x n (i + 1)
-      unfolding clash same_pair
-      clashing-miss q =
-          let z : clash x (cert_at (held_of t) i ∷ drop (i + 1) (held_of t)) ≡ clash x (drop (i + 1) (held_of t)) = rw (sym e ∙ q, clash) in
-          record { all = s.all; high = omega arith; left = s.left ∙ ap (clash x) (held-step t i clashing-below) ∙ z }
+  pub clash-is : (n : ℕ) (b : Bool) → n ≡ count_of t → b ≡ list_any (clashing_at t x.origin x.round x.digest) (range_with_len 0 n) → b ≡ clash x (held_of t)
+  clash-is n b e g = g ∙ clash-from n 0 (omega arith)
 
 -- ---- the table's shape
 
@@ -436,9 +381,6 @@ module _ (n : ℕ) (t : List ℕ) (s : Bool) (es : s ≡ shaped 1062 t) where
 pub count_small : (t : List ℕ) (n : ℕ) → shaped 1062 t ≡ true → n ≡ count_of t → n + 8 ≤ length t
 count_small t n s e = let f = few-rows 1062 t s in omega arith
 
-pub rows-lawful : (n : ℕ) (t : List ℕ) (k : ℕ) (b : Bool) → k ≡ count_of t → b ≡ all_of (lawful_row n) (items 1062 t 8 k) → b ≡ all_of (lawful_row n) (rows_of 1062 t)
-rows-lawful n t k b e f = f ∙ ap (all_of (lawful_row n)) (rows_are 1062 t k e)
-
 -- ---- the state
 
 pub length-lasts : (st : List ℕ) → length (lasts_of st) ≡ length st / 4
@@ -449,33 +391,28 @@ pub last-is : (st : List ℕ) (o x : ℕ) → x ≡ get_or (rounds_of st) o 0 �
 unfolding lasts_of
 last-is st o x e = e
 
-pub record Topping (st : List ℕ) (n top o : ℕ) : Type 0 where
-  pub all : n ≡ length st / 4
-  pub high : o ≤ n
-  pub left : highest (lasts_of st) ≡ max top (highest (drop o (lasts_of st)))
+at-most : (xs : List ℕ) (m : ℕ) → ((k : ℕ) → k < length xs → get_or xs k 0 ≤ m) → highest xs ≤ m
+unfolding highest
+at-most [] m h = omega arith
+at-most (x ∷ xs) m h = let a = h 0 (omega arith) in let b = at-most xs m (λ k l. h (suc k) (omega arith)) in omega arith
 
-pub topping-start : (st : List ℕ) (n : ℕ) → n ≡ length st / 4 → Topping st n 0 0
-topping-start st n e = record { all = e; high = omega arith; left = omega arith }
+at-least : (xs : List ℕ) (k : ℕ) → k < length xs → get_or xs k 0 ≤ highest xs
+unfolding highest
+at-least [] k l = absurd (not-suc-le-zero l)
+at-least (x ∷ xs) zero l = omega arith
+at-least (x ∷ xs) (suc k) l = let a = at-least xs k (le_of_suc-le-suc l) in omega arith
 
-module _ (st : List ℕ) (n top o : ℕ) (s : Topping st n top o) where
-  pub topping-done : n ≤ o → top ≡ highest (lasts_of st)
-  unfolding highest
-  topping-done h =
-      let a = s.all in
-      let l = length-lasts st in
-      let z : highest (drop o (lasts_of st)) ≡ 0 = rw (drop_of_length-le (lasts_of st) {i = o} (omega arith)) in
-      let y = s.left in
-      omega arith
-
-  module _ (l : o < n) where
-    pub topping-fits : o * 4 + 4 ≤ length st
-    topping-fits = let a = s.all in omega arith
-
-    pub topping-next : (x m : ℕ) → x ≡ get_or (lasts_of st) o 0 → m ≡ max top x → Topping st n m (o + 1)
-    unfolding highest
-    topping-next x m ex em =
-        let a = s.all in
-        let k = length-lasts st in
-        let c = ap highest (drop-cons (lasts_of st) o 0 (omega arith)) in
-        let y = s.left in
-        record { all = s.all; high = omega arith; left = rw add-one (omega arith) }
+-- the maximum, where there is a number at all
+pub highest-is : (st : List ℕ) (r : Option ℕ) (x : ℕ)
+    → MatchOption r (length st / 4 ≡ 0) (λ m. (k : ℕ) → k < length st / 4 → get_or (lasts_of st) k 0 ≤ m)
+    → MatchOption r (length st / 4 ≡ 0) (λ m. (k : ℕ) × (k < length st / 4) × (get_or (lasts_of st) k 0 ≡ m))
+    → x ≡ unwrap_or r 0 → x ≡ highest (lasts_of st)
+highest-is st None x a b q =
+    let l = length-lasts st in
+    let h = at-most (lasts_of st) 0 (λ k i. absurd (omega arith)) in
+    omega arith
+highest-is st (Some m) x a b q =
+    let l = length-lasts st in
+    let h = at-most (lasts_of st) m (λ k i. a k (omega arith)) in
+    let g = at-least (lasts_of st) b.0 (omega (arith, b.1)) in
+    omega (arith, b.2)

@@ -7,7 +7,6 @@ ghost use Rattle.consensus.specs.Leaders.{is_in};
 ghost use Rattle.held.specs.Rows.{held_of, held_shape};
 
 use crate::ROW;
-use wire::Found;
 
 // The round of the certificate at place i.
 pub fn round_at(table: &[u8], i: usize) -> u32
@@ -53,7 +52,7 @@ pub fn names(table: &[u8], n: usize, i: usize, digest: &[u8]) -> bool
     ensures { result ≡ is_in digest.now (cert_at (held_of table.now) i).parents }
 {
     let ps = parents_at(table, n, i);
-    let Found::At(_) = wire::items::find(ps, 32, 0, ps.len() / 32, 0, digest) else {
+    let Some(_) = wire::items::find(ps, 32, 0, ps.len() / 32, 0, digest) else {
         return false;
     };
     true
@@ -66,14 +65,7 @@ pub fn find(table: &[u8], round: u32, digest: &[u8]) -> usize
     ensures { result ≡ find round digest.now (held_of table.now) }
 {
     let n = table::rows::count(table);
-    let mut i: usize = 0;
-    while i < n {
-        if table::find::row_round_has(table::rows::row(table, ROW, i), round, 6, digest) {
-            return i;
-        }
-        i += 1;
-    }
-    n
+    table::find::find_round_part(table, ROW, round, 6, digest).unwrap_or(n)
 }
 
 // Whether a round holds a certificate.
@@ -81,15 +73,7 @@ pub fn has_round(table: &[u8], round: u32) -> bool
     requires { shaped 1062 table.now ≡ true }
     ensures { result ≡ not (is_empty (of_round round (held_of table.now))) }
 {
-    let n = table::rows::count(table);
-    let mut i: usize = 0;
-    while i < n {
-        if round_at(table, i) == round {
-            return true;
-        }
-        i += 1;
-    }
-    false
+    table::rows::rows(table, ROW).any(|row| crate::row::round(row) == round)
 }
 
 // The first place with this origin and round; as many as are held, where there is none.
@@ -98,14 +82,9 @@ pub fn place_of(table: &[u8], origin: usize, round: u32) -> usize
     ensures { result ≡ pair_place origin round (held_of table.now) }
 {
     let n = table::rows::count(table);
-    let mut i: usize = 0;
-    while i < n {
-        if is_of(table, i, origin, round) {
-            return i;
-        }
-        i += 1;
-    }
-    n
+    (0..n)
+        .position(|i| is_of(table, i, origin, round))
+        .unwrap_or(n)
 }
 
 // Whether the certificate at place i has this origin and round.

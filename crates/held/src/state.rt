@@ -16,21 +16,8 @@ pub fn last_of(state: &[u8], o: usize) -> u32
 pub fn highest(state: &[u8]) -> u32
     ensures { result ≡ highest (lasts_of state.now) }
 {
-    let n = state.len() / 4;
-    let mut top: u32 = 0;
-    let mut o: usize = 0;
-    while o < n {
-        top = max(top, last_of(state, o));
-        o += 1;
-    }
-    top
-}
-
-fn max(a: u32, b: u32) -> u32
-    ensures { result ≡ Prim.Native.Nat.max a b }
-{
-    if a < b {
-        return b;
-    }
-    a
+    (0..state.len() / 4)
+        .map(|o| last_of(state, o))
+        .max()
+        .unwrap_or(0)
 }

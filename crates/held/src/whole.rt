@@ -13,15 +13,7 @@ fn all_lawful(table: &[u8], n: usize) -> bool
     requires { shaped 1062 table.now ≡ true }
     ensures { result ≡ all_of (lawful_row n) (rows_of 1062 table.now) }
 {
-    let k = table::rows::count(table);
-    let mut i: usize = 0;
-    while i < k {
-        if !crate::row::is_lawful(table::rows::row(table, ROW, i), n) {
-            return false;
-        }
-        i += 1;
-    }
-    true
+    table::rows::rows(table, ROW).all(|row| crate::row::is_lawful(row, n))
 }
 
 // Whether the bytes are a table of lawful rows, with more places than members.
@@ -56,13 +48,5 @@ pub fn clashes(table: &[u8], origin: usize, round: u32, digest: &[u8]) -> bool
     requires digest_len { length digest.now ≡ 32 }
     ensures { result ≡ clash (record { origin = origin; round = round; digest = digest.now; parents = [] }) (held_of table.now) }
 {
-    let n = table::rows::count(table);
-    let mut i: usize = 0;
-    while i < n {
-        if clashes_at(table, i, origin, round, digest) {
-            return true;
-        }
-        i += 1;
-    }
-    false
+    (0..table::rows::count(table)).any(|i| clashes_at(table, i, origin, round, digest))
 }

@@ -18,24 +18,25 @@ use Rattle.held.specs.Rows.{held_of, held_shape, lasts_of}
 use Rattle.held.proofs.Laws.{length-held}
 use Rattle.leaders.specs.Setup.{agreed_of, kind_of}
 use Rattle.leaders.specs.Taking.{leader_at}
-use Rattle.leaders.specs.declared.decide.Decision.TheVariants.{Quiet, Missing, Opens}
+use Rattle.std.specs.Prelude.{Ok, Err}
+use Rattle.refusal.specs.declared.Refusal.TheVariants.{HistoryMissing}
 use Rattle.leaders.proofs.Agreeing.{agreed-edition}
 use Rattle.leaders.proofs.Following.{digest-whole}
 
 module _ (s st t : List ℕ) (round : ℕ) where
-  pub kind-even : (round % 2 ≡ 1 → ⊥) → Quiet ≡ kind_of (decide (agreed_of s) round (lasts_of st) (held_of t))
+  pub kind-even : (round % 2 ≡ 1 → ⊥) → Ok false ≡ kind_of (decide (agreed_of s) round (lasts_of st) (held_of t))
   kind-even h = sym (ap kind_of (decide-even (agreed_of s) round (lasts_of st) (held_of t) h))
 
   module _ (odd : round % 2 ≡ 1) where
-    pub kind-early : round < 5 → Quiet ≡ kind_of (decide (agreed_of s) round (lasts_of st) (held_of t))
+    pub kind-early : round < 5 → Ok false ≡ kind_of (decide (agreed_of s) round (lasts_of st) (held_of t))
     kind-early h = sym (ap kind_of (decide-early (agreed_of s) round (lasts_of st) (held_of t) h))
 
     module _ (five : 5 ≤ round) (top : ℕ) (et : top ≡ highest (lasts_of st)) where
-      pub kind-old : round - 3 ≤ top → Quiet ≡ kind_of (decide (agreed_of s) round (lasts_of st) (held_of t))
+      pub kind-old : round - 3 ≤ top → Ok false ≡ kind_of (decide (agreed_of s) round (lasts_of st) (held_of t))
       kind-old h = sym (ap kind_of (decide-old (agreed_of s) round (lasts_of st) (held_of t) top et h))
 
       -- a leader that is not held is quiet, whatever C is
-      pub kind-absent : (p count : ℕ) → p ≡ leader_at (agreed_of s) (held_of t) (round - 3) → count ≡ count_of t → count ≤ p → Quiet ≡ kind_of (decide (agreed_of s) round (lasts_of st) (held_of t))
+      pub kind-absent : (p count : ℕ) → p ≡ leader_at (agreed_of s) (held_of t) (round - 3) → count ≡ count_of t → count ≤ p → Ok false ≡ kind_of (decide (agreed_of s) round (lasts_of st) (held_of t))
       unfolding leader_at
       kind-absent p count ep ec h = go (ltb top (round - 3)) refl
         where
@@ -45,7 +46,7 @@ module _ (s st t : List ℕ) (round : ℕ) where
           off : leader (agreed_of s) (round - 3) (held_of t) ≡ absent
           off = let e = l in leader-off (agreed_of s) (round - 3) (held_of t) p ep (omega arith)
 
-          go : (b : Bool) → ltb top (round - 3) ≡ b → Quiet ≡ kind_of (decide (agreed_of s) round (lasts_of st) (held_of t))
+          go : (b : Bool) → ltb top (round - 3) ≡ b → Ok false ≡ kind_of (decide (agreed_of s) round (lasts_of st) (held_of t))
           go true q = sym (ap kind_of (decide-absent (agreed_of s) round (lasts_of st) (held_of t) top et odd five (ltb-true top (round - 3) q) off))
           go false q = kind-old (ltb-false top (round - 3) q)
 
@@ -63,7 +64,7 @@ module _ (s st t : List ℕ) (round : ℕ) where
                 go true z = z ∙ sym (ap not (eb ∙ ap not z)) ∙ q
                 go false z = z ∙ sym (ap not (eb ∙ ap not z)) ∙ q
 
-            pub kind-empty : not b ≡ true → Missing ≡ kind_of (decide (agreed_of s) round (lasts_of st) (held_of t))
+            pub kind-empty : not b ≡ true → Err HistoryMissing ≡ kind_of (decide (agreed_of s) round (lasts_of st) (held_of t))
             kind-empty h =
                 sym (ap kind_of (decide-empty (agreed_of s) round (lasts_of st) (held_of t) top et odd five up (cert_at (held_of t) p) leads (empty true h)))
 
@@ -73,7 +74,7 @@ module _ (s st t : List ℕ) (round : ℕ) where
               reaches y q =
                   sym (ex ∙ ap (λ (v : List ℕ). leb (validity (total_stake (agreed_of s).stakes)) (stake_naming (agreed_of s).stakes v (of_round (round - 2) (held_of t)))) ed) ∙ q
 
-              pub kind-weak : not x ≡ true → Quiet ≡ kind_of (decide (agreed_of s) round (lasts_of st) (held_of t))
+              pub kind-weak : not x ≡ true → Ok false ≡ kind_of (decide (agreed_of s) round (lasts_of st) (held_of t))
               kind-weak h =
                   sym (ap kind_of (decide-weak (agreed_of s) round (lasts_of st) (held_of t) top et odd five up (cert_at (held_of t) p) leads (empty false some)
                   (leb-false (validity (total_stake (agreed_of s).stakes)) (stake_naming (agreed_of s).stakes (cert_at (held_of t) p).digest (of_round (round - 2) (held_of t))) (reaches false (not-true x h)))))
@@ -82,7 +83,7 @@ module _ (s st t : List ℕ) (round : ℕ) where
                 support : validity (total_stake (agreed_of s).stakes) ≤ stake_naming (agreed_of s).stakes (cert_at (held_of t) p).digest (of_round (round - 2) (held_of t))
                 support = leb-true (validity (total_stake (agreed_of s).stakes)) (stake_naming (agreed_of s).stakes (cert_at (held_of t) p).digest (of_round (round - 2) (held_of t))) (reaches true (not-false x strong))
 
-                pub kind-alone : q ≡ 0 → Opens ≡ kind_of (decide (agreed_of s) round (lasts_of st) (held_of t))
+                pub kind-alone : q ≡ 0 → Ok true ≡ kind_of (decide (agreed_of s) round (lasts_of st) (held_of t))
                 kind-alone h =
                     let y = decide-alone (agreed_of s) round (lasts_of st) (held_of t) top et odd five up (cert_at (held_of t) p) leads (empty false some) support (agreed-edition s) q eq h in
                     sym (ap kind_of y.1)
@@ -95,12 +96,12 @@ module _ (s st t : List ℕ) (round : ℕ) where
                       go true k = k ∙ ap not (sym (eu ∙ ap not k) ∙ z)
                       go false k = k ∙ ap not (sym (eu ∙ ap not k) ∙ z)
 
-                  pub kind-whole : u ≡ true → Opens ≡ kind_of (decide (agreed_of s) round (lasts_of st) (held_of t))
+                  pub kind-whole : u ≡ true → Ok true ≡ kind_of (decide (agreed_of s) round (lasts_of st) (held_of t))
                   kind-whole h =
                       let y = decide-whole (agreed_of s) round (lasts_of st) (held_of t) top et odd five up (cert_at (held_of t) p) leads (empty false some) support (agreed-edition s) q eq nz (hole true h) in
                       sym (ap kind_of y.1)
 
-                  pub kind-hole : u ≡ false → Missing ≡ kind_of (decide (agreed_of s) round (lasts_of st) (held_of t))
+                  pub kind-hole : u ≡ false → Err HistoryMissing ≡ kind_of (decide (agreed_of s) round (lasts_of st) (held_of t))
                   kind-hole h =
                       sym (ap kind_of (decide-hole (agreed_of s) round (lasts_of st) (held_of t) top et odd five up (cert_at (held_of t) p) leads (empty false some) support (agreed-edition s) q eq nz (hole false h)))
 

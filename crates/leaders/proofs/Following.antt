@@ -129,7 +129,6 @@ marking-same F r (m ∷ ms) (c ∷ cs) l e = go (marking-same F r ms cs (omega a
 pub record Marking (t marks₀ : List ℕ) (upper count : ℕ) (marks : List ℕ) (i : ℕ) : Type 0 where
   pub up : 0 < upper
   pub all : count ≡ count_of t
-  pub high : i ≤ count
   pub fits : length marks₀ ≡ count_of t
   pub size : length marks ≡ length marks₀
   pub front : front_of upper marks (held_of t) ≡ front_of upper marks₀ (held_of t)
@@ -137,7 +136,7 @@ pub record Marking (t marks₀ : List ℕ) (upper count : ℕ) (marks : List ℕ
       ≡ mark_named (front_of upper marks₀ (held_of t)) (upper - 1) marks₀ (held_of t)
 
 pub marking-start : (t marks : List ℕ) (upper count : ℕ) → 0 < upper → count ≡ count_of t → length marks ≡ count_of t → Marking t marks upper count marks 0
-marking-start t marks upper count u e l = record { up = u; all = e; high = omega arith; fits = l; size = refl; front = refl; left = refl }
+marking-start t marks upper count u e l = record { up = u; all = e; fits = l; size = refl; front = refl; left = refl }
 
 module _ (t marks₀ : List ℕ) (upper count : ℕ) (marks : List ℕ) (i : ℕ) (M : Marking t marks₀ upper count marks i) where
   pub marking-below : i < count → i < count_of t
@@ -179,7 +178,6 @@ module _ (t marks₀ : List ℕ) (upper count : ℕ) (marks : List ℕ) (i : ℕ
         record {
           up = u;
           all = a;
-          high = omega arith;
           fits = M.fits;
           size = length-set marks i 1 ∙ M.size;
           front = set_other upper i marks (held_of t) (λ z. omega arith) ∙ M.front;
@@ -201,7 +199,6 @@ module _ (t marks₀ : List ℕ) (upper count : ℕ) (marks : List ℕ) (i : ℕ
         record {
           up = M.up;
           all = a;
-          high = omega arith;
           fits = M.fits;
           size = M.size;
           front = M.front;

@@ -2,20 +2,19 @@
 use mathlib.Core.Path.{◌≡◌, refl, sym, ap, ◌∙◌}
 use mathlib.Core.Bool.{Bool, true, false, not, ◌||◌}
 use mathlib.Core.List.{List, [], ◌∷◌}
-use Prim.Native.Nat.{ℕ, ◌+◌, ◌≤◌, ◌<◌}
-use native.Mathlib.Numerals.{add-one}
+use Prim.Native.Nat.{ℕ, suc, ◌+◌, ◌<◌}
 use native.Mathlib.Omega.{arith}
 use borrow.Author.Tests.{eq-eqb, ne_eqb, not-true, not-false}
 use lib.Dec.{eqb}
-use lib.ListN.{length, get_or, drop, drop_of_length-le}
-use lib.Seq.{drop-cons}
+use lib.ListN.{length, get_or}
+use Rattle.std.specs.List.{list_any, range_with_len}
 use Rattle.wire.specs.Bytes.{alike, part}
 use Rattle.wire.proofs.Laws.{part-all}
 use Rattle.table.specs.Rows.{count_of, shaped}
 use Rattle.consensus.specs.Table.{Cert, cert_at}
 use Rattle.consensus.specs.Leaders.{has_digest, is_in, named}
 use Rattle.held.specs.Rows.{held_of}
-use Rattle.held.proofs.Laws.{digest-length, held-step}
+use Rattle.held.proofs.Laws.{digest-length, length-held}
 use Rattle.leaders.specs.Fronts.{front_of, is_front}
 
 -- ---- one place
@@ -75,13 +74,18 @@ front-one P z s r m ms c cs = go (is_front r m c) refl
     go true t = rw (t, front_of) (s c (front_of r ms cs))
     go false t = rw (t, front_of) (sym (ap (λ (b : Bool). b || P (front_of r ms cs)) z))
 
-pub record Looking (P : List Cert → Bool) (t marks : List ℕ) (r n i : ℕ) : Type 0 where
-  pub nil : P [] ≡ false
-  pub one : (c : Cert) (cs : List Cert) → P (c ∷ cs) ≡ (P (c ∷ []) || P cs)
-  pub all : n ≡ length marks
-  pub size : length marks ≡ count_of t
-  pub high : i ≤ n
-  pub left : P (front_of r marks (held_of t)) ≡ P (front_of r (drop i marks) (drop i (held_of t)))
+-- a test of each place of the front, one after another
+any_front : (P : List Cert → Bool) → P [] ≡ false → ((c : Cert) (cs : List Cert) → P (c ∷ cs) ≡ (P (c ∷ []) || P cs)) → (r : ℕ) (p : ℕ → Bool) (ms : List ℕ) (cs : List Cert) (i : ℕ) → length ms ≡ length cs
+    → ((k j : ℕ) → j ≡ i + k → k < length ms → p j ≡ P (front_of r (get_or ms k 0 ∷ []) (cert_at cs k ∷ []))) → list_any p (range_with_len i (length ms)) ≡ P (front_of r ms cs)
+unfolding front_of cert_at
+any_front P z s r p [] cs i l e = sym z
+any_front P z s r p (m ∷ ms) [] i l e = absurd (omega arith)
+any_front P z s r p (m ∷ ms) (c ∷ cs) i l e =
+    let n : (k j : ℕ) → j ≡ i + 1 + k → k < length ms → p j ≡ P (front_of r (get_or ms k 0 ∷ []) (cert_at cs k ∷ [])) = λ k j q h. e (suc k) j (omega arith) (omega arith) in
+    let y : p i ≡ P (front_of r (m ∷ []) (c ∷ [])) = e 0 i (omega arith) (omega arith) in
+    ap (λ b. b || list_any p (range_with_len (i + 1) (length ms))) y
+    ∙ ap (λ b. P (front_of r (m ∷ []) (c ∷ [])) || b) (any_front P z s r p ms cs (i + 1) (omega arith) n)
+    ∙ sym (front-one P z s r m ms c cs)
 
 has_one : (d : List ℕ) (c : Cert) (cs : List Cert) → has_digest d (c ∷ cs) ≡ (has_digest d (c ∷ []) || has_digest d cs)
 unfolding has_digest
@@ -99,55 +103,13 @@ named-one d c cs = go (is_in d c.parents) refl
     go true t = rw (t, named)
     go false t = rw (t, named)
 
-pub has-start : (t marks d : List ℕ) (r n : ℕ) → n ≡ length marks → length marks ≡ count_of t → Looking (has_digest d) t marks r n 0
-unfolding has_digest
-has-start t marks d r n e s = record { nil = refl; one = has_one d; all = e; size = s; high = omega arith; left = refl }
+module _ (t marks d : List ℕ) (r : ℕ) (b : Bool) (e : length marks ≡ count_of t) where
+  pub has-any : b ≡ list_any (λ i. has_digest d (front_of r (get_or marks i 0 ∷ []) (cert_at (held_of t) i ∷ []))) (range_with_len 0 (length marks)) → b ≡ has_digest d (front_of r marks (held_of t))
+  unfolding has_digest
+  has-any f =
+      f ∙ any_front (has_digest d) refl (has_one d) r (λ i. has_digest d (front_of r (get_or marks i 0 ∷ []) (cert_at (held_of t) i ∷ []))) marks (held_of t) 0 (e ∙ sym (length-held t)) (λ k j q l. let z : j ≡ k = omega arith in rw z)
 
-pub named_start : (t marks d : List ℕ) (r n : ℕ) → n ≡ length marks → length marks ≡ count_of t → Looking (named d) t marks r n 0
-unfolding named
-named_start t marks d r n e s = record { nil = refl; one = named-one d; all = e; size = s; high = omega arith; left = refl }
-
-module _ (P : List Cert → Bool) (t marks : List ℕ) (r n i : ℕ) (L : Looking P t marks r n i) where
-  looking-done : n ≤ i → false ≡ P (front_of r marks (held_of t))
-  unfolding front_of
-  looking-done h =
-      let e = L.all in
-      let z : drop i marks ≡ [] = drop_of_length-le marks {i = i} (omega arith) in
-      sym (L.left ∙ rw z L.nil)
-
-  module _ (h : i < n) where
-    pub looking-below : i < count_of t
-    looking-below = let e = L.all in let s = L.size in omega arith
-
-    module _ (b : Bool) (e : b ≡ P (front_of r (get_or marks i 0 ∷ []) (cert_at (held_of t) i ∷ []))) where
-      on : P (front_of r marks (held_of t)) ≡ (b || P (front_of r (drop (i + 1) marks) (drop (i + 1) (held_of t))))
-      on =
-          let a = L.all in
-          let ms : drop i marks ≡ get_or marks i 0 ∷ drop (i + 1) marks = rw add-one (drop-cons marks i 0 (omega arith)) in
-          L.left
-          ∙ ap (λ (v : List ℕ). P (front_of r v (drop i (held_of t)))) ms
-          ∙ ap (λ (v : List Cert). P (front_of r (get_or marks i 0 ∷ drop (i + 1) marks) v)) (held-step t i looking-below)
-          ∙ front-one P L.nil L.one r (get_or marks i 0) (drop (i + 1) marks) (cert_at (held_of t) i) (drop (i + 1) (held_of t))
-          ∙ ap (λ (k : Bool). k || P (front_of r (drop (i + 1) marks) (drop (i + 1) (held_of t)))) (sym e)
-
-      looking-hit : b ≡ true → true ≡ P (front_of r marks (held_of t))
-      looking-hit q = sym (on ∙ rw q)
-
-      pub looking-miss : b ≡ false → Looking P t marks r n (i + 1)
-      looking-miss q = record { nil = L.nil; one = L.one; all = L.all; size = L.size; high = omega arith; left = on ∙ rw q }
-
--- the two tests
-module _ (t marks d : List ℕ) (r n i : ℕ) where
-  pub has-none : Looking (has_digest d) t marks r n i → n ≤ i → false ≡ has_digest d (front_of r marks (held_of t))
-  has-none L h = looking-done (has_digest d) t marks r n i L h
-
-  pub has-hit : Looking (has_digest d) t marks r n i → i < n → (b : Bool) → b ≡ has_digest d (front_of r (get_or marks i 0 ∷ []) (cert_at (held_of t) i ∷ [])) → b ≡ true
-      → true ≡ has_digest d (front_of r marks (held_of t))
-  has-hit L h b e q = looking-hit (has_digest d) t marks r n i L h b e q
-
-  pub named_none : Looking (named d) t marks r n i → n ≤ i → false ≡ named d (front_of r marks (held_of t))
-  named_none L h = looking-done (named d) t marks r n i L h
-
-  pub named-hit : Looking (named d) t marks r n i → i < n → (b : Bool) → b ≡ named d (front_of r (get_or marks i 0 ∷ []) (cert_at (held_of t) i ∷ [])) → b ≡ true
-      → true ≡ named d (front_of r marks (held_of t))
-  named-hit L h b e q = looking-hit (named d) t marks r n i L h b e q
+  pub named-any : b ≡ list_any (λ i. named d (front_of r (get_or marks i 0 ∷ []) (cert_at (held_of t) i ∷ []))) (range_with_len 0 (length marks)) → b ≡ named d (front_of r marks (held_of t))
+  unfolding named
+  named-any f =
+      f ∙ any_front (named d) refl (named-one d) r (λ i. named d (front_of r (get_or marks i 0 ∷ []) (cert_at (held_of t) i ∷ []))) marks (held_of t) 0 (e ∙ sym (length-held t)) (λ k j q l. let z : j ≡ k = omega arith in rw z)

@@ -16,9 +16,9 @@ use Rattle.config.specs.Committee.{leader_place}
 use Rattle.room.specs.Numbers.{rounds_of}
 use Rattle.leaders.specs.Setup.{kind_of}
 use Rattle.leaders.specs.Taking.{Opener, Taken, leader_at, leader_in}
-use Rattle.leaders.specs.declared.decide.Decision.TheVariants.{Opens}
+use Rattle.std.specs.Prelude.{Ok, true}
 
-opens-is : (d : ordering.Decision) → kind_of d ≡ Opens → (ls : List Cert) × (d ≡ opens ls)
+opens-is : (d : ordering.Decision) → kind_of d ≡ Ok true → (ls : List Cert) × (d ≡ opens ls)
 opens-is quiet e = let z : ◌≡◌ {A = ℕ} 0 1 = cc in absurd (omega arith)
 opens-is missing e = let z : ◌≡◌ {A = ℕ} 0 1 = cc in absurd (omega arith)
 opens-is (opens ls) e = (ls, refl)
@@ -73,7 +73,7 @@ module _ (a : Agreed) (last : List ℕ) (held : List Cert) (opener : ℕ) (O : O
       same xs ys e = cc
 
 -- a caller's own: the decision on a round opens, and the place is that of the leader three rounds below
-module _ (a : Agreed) (last : List ℕ) (held : List Cert) (round p : ℕ) (e : Opens ≡ kind_of (decide a round last held)) (f : p ≡ leader_at a held (round - 3)) where
+module _ (a : Agreed) (last : List ℕ) (held : List Cert) (round p : ℕ) (e : Ok true ≡ kind_of (decide a round last held)) (f : p ≡ leader_at a held (round - 3)) where
   of-round : Opening a round last held (opens-is (decide a round last held) (sym e)).0
   of-round = let y = opens-is (decide a round last held) (sym e) in opening a round last held y.0 y.1
 

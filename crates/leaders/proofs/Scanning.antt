@@ -2,19 +2,20 @@
 use mathlib.Core.Path.{◌≡◌, refl, sym, ap, ◌∙◌}
 use mathlib.Core.Bool.{Bool, true, false, ◌&&◌}
 use mathlib.Core.List.{List, [], ◌∷◌}
-use Prim.Native.Nat.{ℕ, ◌+◌, ◌-◌, ◌/◌, ◌%◌, ◌≤◌, ◌<◌, max, min}
+use Prim.Native.Nat.{ℕ, suc, ◌+◌, ◌-◌, ◌/◌, ◌%◌, ◌≤◌, ◌<◌, max, min}
 use native.Mathlib.Omega.{arith}
 use borrow.Author.Tests.{eq-eqb, ne_eqb, le-leb, lt-leb}
 use lib.Dec.{eqb, leb}
-use lib.ListN.{length, drop}
+use lib.ListN.{length, get_or}
+use Rattle.std.specs.List.{fold, range_with_len}
 use Rattle.table.specs.Rows.{count_of}
 use Rattle.config.specs.Committee.{leader_place}
-use Rattle.consensus.specs.Table.{Cert, cert_at, pair_place}
+use Rattle.consensus.specs.Table.{Cert, cert_at, none, pair_place}
 use Rattle.consensus.specs.Leaders.{Agreed}
 use Rattle.consensus.proofs.Scan.{candidate, next_round}
 use Rattle.consensus.proofs.Settling.{lower_of, lower-none, none-lower, lower-both, lower-assoc, lowest_round}
 use Rattle.held.specs.Rows.{held_of}
-use Rattle.held.proofs.Laws.{held-end, held-step}
+use Rattle.held.proofs.Laws.{length-held}
 use Rattle.leaders.specs.Setup.{agreed_of}
 use Rattle.leaders.specs.Taking.{leader_at}
 use Rattle.leaders.proofs.Agreeing.{agreed-many}
@@ -103,6 +104,21 @@ module _ (x y : ℕ) where
       pub second-lower : y ≤ x → y ≡ lower_of x y
       second-lower h = let z : min x y ≡ y = omega arith in sym (lower-both x y n m ∙ z)
 
+-- ---- a fold over the places held is one over what is held
+
+fold_places : {A : Type 0} (h : ℕ → A → ℕ) (d : A) (f : ℕ → A) (xs : List A) (i m : ℕ) → ((k j : ℕ) → j ≡ i + k → k < length xs → f j ≡ get_or xs k d)
+    → fold (λ b j. h b (f j)) m (range_with_len i (length xs)) ≡ fold h m xs
+fold_places h d f [] i m e = refl
+fold_places h d f (x ∷ xs) i m e =
+    let z : f i ≡ x = e 0 i (omega arith) (omega arith) in
+    let n : (k j : ℕ) → j ≡ i + 1 + k → k < length xs → f j ≡ get_or xs k d = λ k j q l. e (suc k) j (omega arith) (omega arith) in
+    fold_places h d f xs (i + 1) (h m (f i)) n ∙ ap (λ y. fold h (h m y) xs) z
+
+fold_held : (h : ℕ → Cert → ℕ) (t : List ℕ) (n : ℕ) → n ≡ count_of t → fold (λ m i. h m (cert_at (held_of t) i)) 0 (range_with_len 0 n) ≡ fold h 0 (held_of t)
+unfolding cert_at
+fold_held h t n e =
+    ap (λ k. fold (λ m i. h m (cert_at (held_of t) i)) 0 (range_with_len 0 k)) (e ∙ sym (length-held t)) ∙ fold_places h none (cert_at (held_of t)) (held_of t) 0 0 (λ k j q l. let z : j ≡ k = omega arith in rw z)
+
 -- ---- the highest of all
 
 next-cons : (a : Agreed) (low r : ℕ) (c : Cert) (cs : List Cert) → next_round a low r (c ∷ cs) ≡ max (next_round a low r (c ∷ [])) (next_round a low r cs)
@@ -113,33 +129,19 @@ next-cons a low r c cs = go (candidate a low r c) refl
     go true t = rw (t, next_round) (omega arith)
     go false t = rw (t, next_round) (omega arith)
 
-pub record Rising (a : Agreed) (t : List ℕ) (low r count found i : ℕ) : Type 0 where
-  pub all : count ≡ count_of t
-  pub high : i ≤ count
-  pub left : next_round a low r (held_of t) ≡ max found (next_round a low r (drop i (held_of t)))
+next_max : (a : Agreed) (low r m : ℕ) (cs : List Cert) → fold (λ x c. max x (next_round a low r (c ∷ []))) m cs ≡ max m (next_round a low r cs)
+unfolding next_round
+next_max a low r m [] = omega arith
+next_max a low r m (c ∷ cs) =
+    let i = next_max a low r (max m (next_round a low r (c ∷ []))) cs in
+    let e = next-cons a low r c cs in
+    omega arith
 
-pub rising-start : (a : Agreed) (t : List ℕ) (low r count : ℕ) → count ≡ count_of t → Rising a t low r count 0 0
-rising-start a t low r count e = record { all = e; high = omega arith; left = omega arith }
-
-module _ (a : Agreed) (t : List ℕ) (low r count found i : ℕ) (S : Rising a t low r count found i) where
-  pub rising-done : count ≤ i → found ≡ next_round a low r (held_of t)
-  unfolding next_round
-  rising-done h =
-      let e = S.all in
-      let z : next_round a low r (drop i (held_of t)) ≡ 0 = rw (held-end t i (omega arith)) in
-      let l = S.left in
-      omega arith
-
-  module _ (h : i < count) where
-    pub rising-below : i < count_of t
-    rising-below = let e = S.all in omega arith
-
-    pub rising-next : (x m : ℕ) → x ≡ next_round a low r (cert_at (held_of t) i ∷ []) → m ≡ max found x → Rising a t low r count m (i + 1)
-    rising-next x m e f =
-        let l = S.left in
-        let p = ap (next_round a low r) (held-step t i rising-below) in
-        let q = next-cons a low r (cert_at (held_of t) i) (drop (i + 1) (held_of t)) in
-        record { all = S.all; high = omega arith; left = omega arith }
+pub next-all : (a : Agreed) (t : List ℕ) (low r n x : ℕ) → n ≡ count_of t → x ≡ fold (λ m i. max m (next_round a low r (cert_at (held_of t) i ∷ []))) 0 (range_with_len 0 n) → x ≡ next_round a low r (held_of t)
+next-all a t low r n x e f =
+    let p = fold_held (λ m c. max m (next_round a low r (c ∷ []))) t n e in
+    let q = next_max a low r 0 (held_of t) in
+    omega arith
 
 -- ---- the lowest of all
 
@@ -153,34 +155,15 @@ lowest-cons a low r c cs = go (candidate a low r c) refl
         rw (t, next_round, lowest_round) (ap (λ (k : ℕ). lower_of k (lowest_round a low r cs)) (sym z))
     go false t = rw (t, next_round, lowest_round) (sym (lower-none (lowest_round a low r cs)))
 
-pub record Lowering (a : Agreed) (t : List ℕ) (low r count found i : ℕ) : Type 0 where
-  pub all : count ≡ count_of t
-  pub high : i ≤ count
-  pub left : lowest_round a low r (held_of t) ≡ lower_of found (lowest_round a low r (drop i (held_of t)))
+lowest_lower : (a : Agreed) (low r m : ℕ) (cs : List Cert) → fold (λ x c. lower_of x (next_round a low r (c ∷ []))) m cs ≡ lower_of m (lowest_round a low r cs)
+unfolding next_round lowest_round
+lowest_lower a low r m [] = sym (none-lower m)
+lowest_lower a low r m (c ∷ cs) =
+    lowest_lower a low r (lower_of m (next_round a low r (c ∷ []))) cs
+    ∙ lower-assoc m (next_round a low r (c ∷ [])) (lowest_round a low r cs)
+    ∙ ap (lower_of m) (sym (lowest-cons a low r c cs))
 
-pub lowering-start : (a : Agreed) (t : List ℕ) (low r count : ℕ) → count ≡ count_of t → Lowering a t low r count 0 0
-lowering-start a t low r count e = record { all = e; high = omega arith; left = sym (lower-none (lowest_round a low r (held_of t))) }
-
-module _ (a : Agreed) (t : List ℕ) (low r count found i : ℕ) (S : Lowering a t low r count found i) where
-  pub lowering-done : count ≤ i → found ≡ lowest_round a low r (held_of t)
-  unfolding lowest_round
-  lowering-done h =
-      let e = S.all in
-      let z : lowest_round a low r (drop i (held_of t)) ≡ 0 = rw (held-end t i (omega arith)) in
-      sym (S.left ∙ ap (lower_of found) z ∙ none-lower found)
-
-  module _ (h : i < count) where
-    pub lowering-below : i < count_of t
-    lowering-below = let e = S.all in omega arith
-
-    pub lowering-next : (x m : ℕ) → x ≡ next_round a low r (cert_at (held_of t) i ∷ []) → m ≡ lower_of found x → Lowering a t low r count m (i + 1)
-    lowering-next x m e f =
-        let rest : ℕ = lowest_round a low r (drop (i + 1) (held_of t)) in
-        let p = ap (lowest_round a low r) (held-step t i lowering-below) in
-        let q : lowest_round a low r (cert_at (held_of t) i ∷ drop (i + 1) (held_of t)) ≡ lower_of x rest =
-        lowest-cons a low r (cert_at (held_of t) i) (drop (i + 1) (held_of t)) ∙ ap (λ (k : ℕ). lower_of k rest) (sym e) in
-        record {
-          all = S.all;
-          high = omega arith;
-          left = S.left ∙ ap (lower_of found) (p ∙ q) ∙ sym (lower-assoc found x rest) ∙ ap (λ (k : ℕ). lower_of k rest) (sym f);
-        }
+pub lowest-all : (a : Agreed) (t : List ℕ) (low r n x : ℕ) → n ≡ count_of t → x ≡ fold (λ m i. lower_of m (next_round a low r (cert_at (held_of t) i ∷ []))) 0 (range_with_len 0 n)
+    → x ≡ lowest_round a low r (held_of t)
+lowest-all a t low r n x e f =
+    f ∙ fold_held (λ m c. lower_of m (next_round a low r (c ∷ []))) t n e ∙ lowest_lower a low r 0 (held_of t) ∙ lower-none (lowest_round a low r (held_of t))

@@ -75,7 +75,6 @@ total-some ms v = let w = valid ms v in let o = w.one in let l = length-members 
 pub record Summing (s t d : List ℕ) (r need count sum i : ℕ) : Type 0 where
   pub is : need ≡ validity (total_stake (agreed_of s).stakes)
   pub all : count ≡ count_of t
-  pub high : i ≤ count
   pub few : need ≤ 16777216
   pub under : sum < need
   pub left : stake_naming (agreed_of s).stakes d (of_round r (held_of t)) ≡ sum + stake_naming (agreed_of s).stakes d (of_round r (drop i (held_of t)))
@@ -87,7 +86,7 @@ summing_start s t d ms r need count v e f g =
     let w = (valid (drop 8 s) (valid-setup s v).members).weight in
     let o = total-some (drop 8 s) (valid-setup s v).members in
     let p : need ≡ validity (total (members_of (drop 8 s))) = f ∙ ap (λ (m : List ℕ). validity (total (members_of m))) e in
-    record { is = p ∙ ap validity (sym (agreed-total s)); all = g; high = omega arith; few = omega arith; under = omega arith; left = omega arith }
+    record { is = p ∙ ap validity (sym (agreed-total s)); all = g; few = omega arith; under = omega arith; left = omega arith }
 
 module _ (s t d : List ℕ) (r need count sum i : ℕ) (S : Summing s t d r need count sum i) where
   pub summing-done : count ≤ i → false ≡ leb (validity (total_stake (agreed_of s).stakes)) (stake_naming (agreed_of s).stakes d (of_round r (held_of t)))
@@ -119,4 +118,4 @@ module _ (s t d : List ℕ) (r need count sum i : ℕ) (S : Summing s t d r need
           sym (le-leb (validity (total_stake (agreed_of s).stakes)) (stake_naming (agreed_of s).stakes d (of_round r (held_of t))) (omega arith))
 
       pub summing-next : sum + x < need → Summing s t d r need count (sum + x) (i + 1)
-      summing-next g = record { is = S.is; all = S.all; high = omega arith; few = S.few; under = g; left = on }
+      summing-next g = record { is = S.is; all = S.all; few = S.few; under = g; left = on }

@@ -59,15 +59,6 @@ fn candidate_round(setup: &[u8], table: &[u8], i: usize, low: u32, r: u32) -> u3
     0
 }
 
-fn higher(a: u32, b: u32) -> u32
-    ensures { result ≡ max a b }
-{
-    if a < b {
-        return b;
-    }
-    a
-}
-
 // The lower of two rounds, where 0 is none.
 fn lower(a: u32, b: u32) -> u32
     ensures { result ≡ lower_of a b }
@@ -91,13 +82,10 @@ pub fn next_round(setup: &[u8], table: &[u8], low: u32, r: u32) -> u32
     ensures { result ≡ next_round (agreed_of setup.now) low r (held_of table.now) }
 {
     let count = table::rows::count(table);
-    let mut found: u32 = 0;
-    let mut i: usize = 0;
-    while i < count {
-        found = higher(found, candidate_round(setup, table, i, low, r));
-        i += 1;
-    }
-    found
+    (0..count).fold(
+        0,
+        |found, i| found.max(candidate_round(setup, table, i, low, r)),
+    )
 }
 
 // The lowest candidate round, 0 where there is none.
@@ -107,11 +95,8 @@ pub fn lowest_round(setup: &[u8], table: &[u8], low: u32, r: u32) -> u32
     ensures { result ≡ lowest_round (agreed_of setup.now) low r (held_of table.now) }
 {
     let count = table::rows::count(table);
-    let mut found: u32 = 0;
-    let mut i: usize = 0;
-    while i < count {
-        found = lower(found, candidate_round(setup, table, i, low, r));
-        i += 1;
-    }
-    found
+    (0..count).fold(
+        0,
+        |found, i| lower(found, candidate_round(setup, table, i, low, r)),
+    )
 }

@@ -56,15 +56,7 @@ fn has_digest(table: &[u8], marks: &[u8], round: u32, digest: &[u8]) -> bool
     requires digest_len { length digest.now ≡ 32 }
     ensures { result ≡ has_digest digest.now (front_of round marks.now (held_of table.now)) }
 {
-    let count = marks.len();
-    let mut i: usize = 0;
-    while i < count {
-        if front_has(table, marks, i, round, digest) {
-            return true;
-        }
-        i += 1;
-    }
-    false
+    (0..marks.len()).any(|i| front_has(table, marks, i, round, digest))
 }
 
 // Whether place i is of the front and names the digest as parent.
@@ -88,15 +80,7 @@ fn is_named(table: &[u8], n: usize, marks: &[u8], round: u32, digest: &[u8]) -> 
     requires digest_len { length digest.now ≡ 32 }
     ensures { result ≡ named digest.now (front_of round marks.now (held_of table.now)) }
 {
-    let count = marks.len();
-    let mut i: usize = 0;
-    while i < count {
-        if front_names(table, n, marks, i, round, digest) {
-            return true;
-        }
-        i += 1;
-    }
-    false
+    (0..marks.len()).any(|i| front_names(table, n, marks, i, round, digest))
 }
 
 // Marks place i, where its certificate is of the round below upper and one of the front names it as parent.
@@ -125,10 +109,8 @@ fn follow(table: &[u8], n: usize, marks: &mut [u8], upper: u32)
     ensures { Follows (held_of table.now) upper marks.old marks.new }
 {
     let count = table::rows::count(table);
-    let mut i: usize = 0;
-    while i < count {
+    for i in 0..count {
         mark_named(table, n, marks, i, upper);
-        i += 1;
     }
 }
 

@@ -46,13 +46,11 @@ pub fn is_supported(setup: &[u8], table: &[u8], round: u32, digest: &[u8]) -> bo
     let need = config::committee::validity_threshold(config::committee::members_of(setup)) as u64;
     let count = table::rows::count(table);
     let mut sum: u64 = 0;
-    let mut i: usize = 0;
-    while i < count {
+    for i in 0..count {
         sum += stake_naming(setup, table, i, round, digest) as u64;
         if need <= sum {
             return true;
         }
-        i += 1;
     }
     false
 }

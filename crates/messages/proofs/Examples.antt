@@ -12,7 +12,7 @@ use Rattle.messages.specs.Certificate.{header_of, vote_count, certificate_shape}
 use Rattle.messages.specs.Strings.{payload_item, header_string, vote_string}
 use Rattle.messages.specs.Answers.{fits, written_answer, written_out, may_header, may_vote}
 use Rattle.messages.specs.Sample.{key_with, keys_with, payload_with, header_with, vote_with, certificate_with}
-use Rattle.messages.specs.declared.answers.Answer.TheVariants.{Done}
+use Rattle.std.specs.Prelude.{Ok}
 
 abbrev small : List ℕ
 small = header_with 1 7 (5 ∷ 6 ∷ []) 3 (258 ∷ 7 ∷ [])
@@ -74,7 +74,7 @@ pub record Texts : Type 0 where
   pub just-room : may_header small (replicate 179 0) 3 ≡ true
   pub byte-short : may_header small (replicate 178 0) 3 ≡ false
   pub far-out : may_header small (replicate 178 0) 18446744073709551615 ≡ false
-  pub how-many : written_answer true (header_string small) ≡ Done 176
+  pub how-many : written_answer true (header_string small) ≡ Ok 176
   pub round-0 : may_vote (key_with 9) 0 (key_with 1) (replicate 80 0) 8 ≡ false
   pub vote-room : may_vote (key_with 9) 1 (key_with 1) (replicate 80 0) 8 ≡ true
   pub around : written_out true (1 ∷ 2 ∷ 3 ∷ 4 ∷ []) 1 (8 ∷ 9 ∷ []) ≡ 1 ∷ 8 ∷ 9 ∷ 4 ∷ []

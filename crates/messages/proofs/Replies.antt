@@ -11,9 +11,10 @@ use borrow.Rule.Slice.PartMut.{put_mid}
 use Rattle.wire.proofs.Laws.{put-mid, length-bytes}
 use Rattle.messages.specs.Header.{parent_count, payload_count, lawful_round, header_shape}
 use Rattle.messages.specs.Strings.{header_string, vote_string}
-use Rattle.messages.specs.Answers.{code_of, fits, written_answer, written_out, Written, may_header, may_vote}
-use Rattle.messages.specs.declared.answers.Answer.{Answer}
-use Rattle.messages.specs.declared.answers.Answer.TheVariants.{Done, BadShape}
+use Rattle.messages.specs.Answers.{fits, written_answer, written_out, Written, may_header, may_vote}
+use Rattle.refusal.specs.Answers.{Answer}
+use Rattle.std.specs.Prelude.{Ok, Err}
+use Rattle.refusal.specs.declared.Refusal.TheVariants.{BadShape}
 use Rattle.messages.proofs.Laws.{header-length, header-parents, header-payload}
 use Rattle.messages.proofs.Writing.{header-string-length}
 
@@ -30,27 +31,18 @@ room-last out at n h = go (leb n (out - at)) refl where
 pub room-yes : (out : List ℕ) (at n : ℕ) (b : Bool) → b ≡ leb (at + n) (length out) → not b ≡ false → at + n ≤ length out
 room-yes out at n b e f = leb-true (at + n) (length out) (sym e ∙ not-false b f)
 
--- ---- the numbers
-pub code-done : (a : Answer) (n : ℕ) → a ≡ Done n → 256 * n ≡ code_of a
-unfolding code_of
-code-done a n e = rw e (omega arith)
-
-pub code_shape : (a : Answer) → a ≡ BadShape → 11 ≡ code_of a
-unfolding code_of
-code_shape a e = rw e
-
 -- ---- refused, or written
-refused : (may : Bool) (s out : List ℕ) (at : ℕ) → may ≡ false → Written may s out at BadShape out
+refused : (may : Bool) (s out : List ℕ) (at : ℕ) → may ≡ false → Written may s out at (Err BadShape) out
 unfolding written_answer written_out
 refused may s out at e = record { answer = rw e; buffer = rw e }
 
-done : (may : Bool) (s out y : List ℕ) (at n k : ℕ) → may ≡ true → length s ≡ n → k ≡ n → y ≡ s → Written may s out at (Done n) (put_mid at k out y)
+done : (may : Bool) (s out y : List ℕ) (at n k : ℕ) → may ≡ true → length s ≡ n → k ≡ n → y ≡ s → Written may s out at (Ok n) (put_mid at k out y)
 unfolding written_answer written_out
 done may s out y at n k e l q f = record { answer = rw (e, l); buffer = rw e (put-mid out y at k (ap length f ∙ l ∙ sym q) ∙ rw f) }
 
 -- ---- a header's
 module _ (h out : List ℕ) (at : ℕ) (b : Bool) (e : b ≡ header_shape h) where
-  pub header-misshapen : not b ≡ true → Written (may_header h out at) (header_string h) out at BadShape out
+  pub header-misshapen : not b ≡ true → Written (may_header h out at) (header_string h) out at (Err BadShape) out
   unfolding may_header
   header-misshapen f = refused _ (header_string h) out at (rw (sym e ∙ not-true b f))
 
@@ -74,7 +66,7 @@ module _ (h out : List ℕ) (at : ℕ) (b : Bool) (e : b ≡ header_shape h) whe
       pub shaped-few : n ≤ 3368
       shaped-few = omega (arith, shaped-string, shaped-parents, shaped-payload)
 
-      pub header-no-room : (b' : Bool) → b' ≡ leb (at + n) (length out) → not b' ≡ true → Written (may_header h out at) (header_string h) out at BadShape out
+      pub header-no-room : (b' : Bool) → b' ≡ leb (at + n) (length out) → not b' ≡ true → Written (may_header h out at) (header_string h) out at (Err BadShape) out
       unfolding may_header fits
       header-no-room b' e' f' = refused _ (header_string h) out at (rw (shaped, sym l) (sym e' ∙ not-true b' f'))
 
@@ -82,22 +74,22 @@ module _ (h out : List ℕ) (at : ℕ) (b : Bool) (e : b ≡ header_shape h) whe
         pub header-part : length (take (at + n - at) (drop at out)) ≡ 40 + payload_count h * 36 + parent_count h * 32
         header-part = simp (length-take, length-drop) (omega (arith, room-yes out at n b' e' f', shaped-string))
 
-        pub header-done : (y : List ℕ) → y ≡ header_string h → Written (may_header h out at) (header_string h) out at (Done n) (put_mid at (at + n - at) out y)
+        pub header-done : (y : List ℕ) → y ≡ header_string h → Written (may_header h out at) (header_string h) out at (Ok n) (put_mid at (at + n - at) out y)
         unfolding may_header fits
         header-done y g =
             done _ (header_string h) out y at n (at + n - at) (rw (shaped, sym l) (sym e' ∙ not-false b' f')) (sym l) (omega arith) g
 
 -- ---- a vote's and a certificate's
 module _ (id origin out : List ℕ) (round at : ℕ) where
-  pub id-misshapen : (length id ≡ 32 → ⊥) → Written (may_vote id round origin out at) (vote_string id round origin) out at BadShape out
+  pub id-misshapen : (length id ≡ 32 → ⊥) → Written (may_vote id round origin out at) (vote_string id round origin) out at (Err BadShape) out
   unfolding may_vote
   id-misshapen f = refused _ (vote_string id round origin) out at (rw (ne_eqb (length id) 32 f))
 
-  pub origin-misshapen : (length origin ≡ 32 → ⊥) → Written (may_vote id round origin out at) (vote_string id round origin) out at BadShape out
+  pub origin-misshapen : (length origin ≡ 32 → ⊥) → Written (may_vote id round origin out at) (vote_string id round origin) out at (Err BadShape) out
   unfolding may_vote
   origin-misshapen f = refused _ (vote_string id round origin) out at (simp (ne_eqb (length origin) 32 f, and-false))
 
-  pub round-misshapen : (b : Bool) → b ≡ lawful_round round → not b ≡ true → Written (may_vote id round origin out at) (vote_string id round origin) out at BadShape out
+  pub round-misshapen : (b : Bool) → b ≡ lawful_round round → not b ≡ true → Written (may_vote id round origin out at) (vote_string id round origin) out at (Err BadShape) out
   unfolding may_vote
   round-misshapen b e f =
       let q : lawful_round round ≡ false = sym e ∙ not-true b f in
@@ -115,9 +107,9 @@ module _ (id origin out : List ℕ) (round at : ℕ) where
           let q : lawful_round round ≡ true = sym e ∙ not-false b f in
           rw (eq-eqb (length id) 32 li, eq-eqb (length origin) 32 lo, q, vote-long) (sym e')
 
-      pub vote-no-room : not b' ≡ true → Written (may_vote id round origin out at) (vote_string id round origin) out at BadShape out
+      pub vote-no-room : not b' ≡ true → Written (may_vote id round origin out at) (vote_string id round origin) out at (Err BadShape) out
       vote-no-room f' = refused _ (vote_string id round origin) out at (may-vote ∙ not-true b' f')
 
       module _ (f' : not b' ≡ false) where
-        pub vote-done : (y : List ℕ) → y ≡ vote_string id round origin → Written (may_vote id round origin out at) (vote_string id round origin) out at (Done 72) (put_mid at (at + 72 - at) out y)
+        pub vote-done : (y : List ℕ) → y ≡ vote_string id round origin → Written (may_vote id round origin out at) (vote_string id round origin) out at (Ok 72) (put_mid at (at + 72 - at) out y)
         vote-done y g = done _ (vote_string id round origin) out y at 72 (at + 72 - at) (may-vote ∙ not-false b' f') vote-long (omega arith) g

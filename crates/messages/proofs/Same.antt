@@ -5,7 +5,7 @@ use mathlib.Core.List.{List}
 use Prim.Native.Nat.{ℕ}
 use Rattle.messages.specs.Answers.{Written, may_header, may_vote, HeaderWritten, VoteWritten}
 use Rattle.messages.specs.Strings.{header_string, vote_string}
-use Rattle.messages.specs.declared.answers.Answer.{Answer}
+use Rattle.refusal.specs.Answers.{Answer}
 
 pub written_same : (may : Bool) (s out : List ℕ) (at : ℕ) (r r' : Answer) (o o' : List ℕ) → Written may s out at r o → Written may s out at r' o' → (r ≡ r') × (o ≡ o')
 written_same may s out at r r' o o' w w' = (w.answer ∙ sym w'.answer, w.buffer ∙ sym w'.buffer)

@@ -6,12 +6,12 @@ use native.Mathlib.Numerals.{add-one}
 use native.Mathlib.Nat.{zero-mul, mul-le-mul_right}
 use native.Mathlib.Omega.{arith}
 use lib.ListN.{length, get_or, take, drop, length-append, length-take, length-drop, length-map, take-append-drop, drop_of_length-le}
-use lib.Seq.{take-suc, take_all, drop-drop, length-take-le}
+use lib.Seq.{take-suc, take_at, take_all, drop-drop, length-take-le}
 use borrow.Rule.Slice.PartMut.{put_mid}
 use Rattle.wire.specs.Bytes.{splice, bytes}
-use Rattle.wire.specs.Items.{items, item_in, flat}
+use Rattle.wire.specs.Items.{chunks, items, item_in, flat}
 use Rattle.wire.proofs.Laws.{length_part, length-bytes, length-splice, put-mid}
-use Rattle.wire.proofs.Lists.{Sized, none, one, sized-at, sized-take, items-sized, item-is, item-length, length-items, length-flat, flat_append, flat-one, splice-seam, splice-next, below-mul, next-mul}
+use Rattle.wire.proofs.Lists.{Sized, none, one, sized-at, sized-take, items-sized, item-is, item-length, length-items, length-flat, length-chunks, chunks-sized, flat-chunks, flat_append, flat-one, splice-seam, splice-next, below-mul, next-mul}
 use Rattle.messages.specs.Header.{author_of, round_of, parent_count, payload_count, parents_of, payload_of, digest_in, worker_in}
 use Rattle.messages.specs.Strings.{payload_item, header_string, vote_string}
 
@@ -70,9 +70,6 @@ module _ (rs : List (List ℕ)) (size n : ℕ) (out₀ out : List ℕ) (i : ℕ)
       s.here ∙ rw (z, append-nil, t)
 
   module _ (l : i < n) where
-    pub filling-room : (r : List ℕ) → length r ≡ size → i * size + length r ≤ length out
-    filling-room r e = omega (arith, filling-length, below-mul i n size l)
-
     pub filling-next : (r out' : List ℕ) → r ≡ get_or rs i [] → out' ≡ splice out (i * size) r → Filling rs size n out₀ out' (i + 1)
     filling-next r out' e f =
         let lr : length r ≡ size = ap length e ∙ sized-at size rs i s.sized (omega (arith, s.count)) in
@@ -96,23 +93,17 @@ module _ (rs : List (List ℕ)) (size n : ℕ) (out₀ out : List ℕ) (i : ℕ)
               ∙ sym (rw (t, flat_append, flat-one, append_assoc));
         }
 
--- ---- the parents of a header
-module _ (h : List ℕ) (n : ℕ) (l : length h ≡ 3402) (few : parent_count h ≤ 32) (e : n ≡ parent_count h) where
-  pub parents-start : (out : List ℕ) → length out ≡ parent_count h * 32 → Filling (parents_of h) 32 n out out 0
-  unfolding parents_of
-  parents-start out m =
-      filling-start (items 32 h 74 (parent_count h)) 32 n out (length-items 32 h 74 (parent_count h) ∙ sym e) (items-sized 32 h 74 (parent_count h) (omega arith)) (omega arith)
-
-  module _ (out₀ out : List ℕ) (i : ℕ) (s : Filling (parents_of h) 32 n out₀ out i) (b : i < n) (r : List ℕ) (f : r ≡ item_in 32 h 74 i) where
-    parent_is : r ≡ get_or (parents_of h) i []
-    unfolding parents_of
-    parent_is = f ∙ item-is 32 h 74 (parent_count h) (omega arith) i (omega arith)
-
-    pub parents-room : i * 32 + length r ≤ length out
-    parents-room = filling-room (parents_of h) 32 n out₀ out i s b r (ap length f ∙ item-length 32 h 74 (parent_count h) (omega arith) i (omega arith))
-
-    pub parents-next : (out' : List ℕ) → out' ≡ splice out (i * 32) r → Filling (parents_of h) 32 n out₀ out' (i + 1)
-    parents-next out' g = filling-next (parents_of h) 32 n out₀ out i s b r out' parent_is g
+-- ---- the parents of a header stand as they are written
+pub parents-copied : (h out : List ℕ) (n : ℕ) → length h ≡ 3402 → parent_count h ≤ 32 → n ≡ parent_count h → out ≡ take (74 + n * 32 - 74) (drop 74 h) → out ≡ flat (parents_of h)
+unfolding parents_of items
+parents-copied h out n l few e f =
+    let rs : List (List ℕ) = chunks 32 (drop 74 h) n in
+    let m : 74 + n * 32 - 74 ≡ n * 32 = omega arith in
+    let k : length (flat rs) ≡ n * 32 = length-flat 32 rs (chunks-sized 32 (drop 74 h) n (simp length-drop (omega arith))) ∙ ap (λ (z : ℕ). z * 32) (length-chunks 32 (drop 74 h) n) in
+    f
+    ∙ rw m (ap (take (n * 32)) (sym (flat-chunks 32 (drop 74 h) n)))
+    ∙ take_at (flat rs) (drop (n * 32) (drop 74 h)) (n * 32) k
+    ∙ rw e
 
 -- ---- the payload of a header
 strings-sized : (ps : List (List ℕ)) → Sized 36 ps → Sized 36 (map payload_item ps)

@@ -3,21 +3,9 @@ use Rattle.std.specs.Prelude.{ℕ, ◌+◌, ◌*◌, ◌≡◌, Bool, true, fals
 use Rattle.wire.specs.Bytes.{splice}
 use Rattle.messages.specs.Header.{lawful_round, header_shape}
 use Rattle.messages.specs.Strings.{header_string, vote_string}
-use Rattle.messages.specs.declared.answers.Answer.{Answer}
-use Rattle.messages.specs.declared.answers.Answer.TheVariants.{Done, BadShape}
-
--- document 01's number of each answer, 0 where it is no refusal; and its value
-abbrev pub number_of : Answer → ℕ
-number_of (Done n) = 0
-number_of BadShape = 11
-
-abbrev pub value_of : Answer → ℕ
-value_of (Done n) = n
-value_of BadShape = 0
-
--- both as one number
-unfoldable pub code_of : Answer → ℕ
-code_of a = number_of a + 256 * value_of a
+use Rattle.refusal.specs.Answers.{Answer}
+use Rattle.std.specs.Prelude.{Ok, Err}
+use Rattle.refusal.specs.declared.Refusal.TheVariants.{BadShape}
 
 -- whether a string has room in a buffer, from at
 unfoldable pub fits : List ℕ → ℕ → List ℕ → Bool
@@ -25,7 +13,7 @@ fits out at s = leb (at + length s) (length out)
 
 -- a string is written where it may be: the answer is the number of bytes written, or 11
 unfoldable pub written_answer : Bool → List ℕ → Answer
-written_answer may s = elim may [ true ↦ Done (length s) | false ↦ BadShape ]
+written_answer may s = elim may [ true ↦ Ok (length s) | false ↦ Err BadShape ]
 
 -- the buffer then: the string from at, or nothing changed
 unfoldable pub written_out : Bool → List ℕ → ℕ → List ℕ → List ℕ

@@ -5,9 +5,9 @@ ghost use Rattle.messages.specs.Header.{id_of, author_of, round_of, parent_count
 
 pub const HEADER: usize = 3402;
 
-const PARENTS: usize = 74;
+pub const PARENTS: usize = 74;
 
-const PAYLOAD: usize = 1098;
+pub const PAYLOAD: usize = 1098;
 
 pub fn id<'a>(header: &'a [u8]) -> &'a [u8]
     requires { length header.now ≡ 3402 }

@@ -4,6 +4,8 @@ ghost use Rattle.wire.specs.Items.{flat};
 ghost use Rattle.messages.specs.Header.{parent_count, payload_count, parents_of, payload_of, header_shape};
 ghost use Rattle.messages.specs.Strings.{payload_item, header_string, vote_string};
 
+use crate::header::PARENTS;
+
 // A payload digest, then its worker id.
 fn write_item(item: &[u8], out: &mut [u8])
     requires in_bounds { 36 ≤ length item.now }
@@ -22,12 +24,10 @@ fn write_payload(header: &[u8], out: &mut [u8])
     ensures { out.new ≡ flat (map payload_item (payload_of header.now)) }
 {
     let n = crate::header::payload_count(header);
-    let mut i: usize = 0;
-    while i < n {
+    for i in 0..n {
         let from = i * 36;
         let end = from + 36;
         write_item(crate::header::payload(header, i), &mut out[from..end]);
-        i += 1;
     }
 }
 
@@ -39,11 +39,7 @@ fn write_parents(header: &[u8], out: &mut [u8])
     ensures { out.new ≡ flat (parents_of header.now) }
 {
     let n = crate::header::parent_count(header);
-    let mut i: usize = 0;
-    while i < n {
-        wire::parts::put_bytes(out, i * 32, crate::header::parent(header, i));
-        i += 1;
-    }
+    out.copy_from_slice(&header[PARENTS..PARENTS + n * 32]);
 }
 
 // How long a header's string is.

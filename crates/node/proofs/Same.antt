@@ -3,14 +3,13 @@ use mathlib.Core.Path.{◌≡◌, sym, ◌∙◌}
 use mathlib.Core.List.{List}
 use Prim.Native.Nat.{ℕ}
 use Rattle.synchronizer.specs.Answers.{deliver_answer}
-use Rattle.synchronizer.specs.Answers as synchronizer
-use Rattle.checks.specs.Answers as checks
 use Rattle.checks.specs.Header.{header_check}
 use Rattle.checks.specs.Vote.{vote_check}
 use Rattle.checks.specs.Certificate.{certificate_check}
 use Rattle.proposer.specs.Events.{After}
 use Rattle.node.specs.Promises.{HeaderString, VoteString, CountVote, CountCertificate, GetParents, MissingPayload, Learn, Proposed, OrderingStart}
-use Rattle.config.specs.Answers.{code_of, committee_answer, setup_answer, quorum_answer, validity_answer, stake_answer, worker_answer, leader_answer}
+use Rattle.refusal.specs.Answers.{code_of}
+use Rattle.config.specs.Answers.{committee_answer, setup_answer, quorum_answer, validity_answer, stake_answer, worker_answer, leader_answer}
 
 module _ (r s : ℕ) where
   pub same-committee : (members : List ℕ) → r ≡ code_of (committee_answer members) → s ≡ code_of (committee_answer members) → r ≡ s
@@ -52,18 +51,18 @@ module _ (r s : ℕ) (u v : List ℕ) where
   pub same-learn : (known new : List ℕ) → Learn known new r u → Learn known new s v → (r ≡ s) × (u ≡ v)
   same-learn known new p q = (p.answer ∙ sym q.answer, p.table ∙ sym q.table)
 
-pub same-deliver : (r s : ℕ) (members genesis known header : List ℕ) → r ≡ synchronizer.code_of (deliver_answer members genesis known header) → s ≡ synchronizer.code_of (deliver_answer members genesis known header) → r ≡ s
+pub same-deliver : (r s : ℕ) (members genesis known header : List ℕ) → r ≡ code_of (deliver_answer members genesis known header) → s ≡ code_of (deliver_answer members genesis known header) → r ≡ s
 same-deliver r s members genesis known header p q = p ∙ sym q
 
 -- ---- checks
 module _ (r s : ℕ) (members : List ℕ) where
-  pub same-header-check : (header : List ℕ) (id sig : ℕ) → r ≡ checks.code_of (header_check members header id sig) → s ≡ checks.code_of (header_check members header id sig) → r ≡ s
+  pub same-header-check : (header : List ℕ) (id sig : ℕ) → r ≡ code_of (header_check members header id sig) → s ≡ code_of (header_check members header id sig) → r ≡ s
   same-header-check header id sig p q = p ∙ sym q
 
-  pub same-vote-check : (vote : List ℕ) (sig : ℕ) → r ≡ checks.code_of (vote_check members vote sig) → s ≡ checks.code_of (vote_check members vote sig) → r ≡ s
+  pub same-vote-check : (vote : List ℕ) (sig : ℕ) → r ≡ code_of (vote_check members vote sig) → s ≡ code_of (vote_check members vote sig) → r ≡ s
   same-vote-check vote sig p q = p ∙ sym q
 
-  pub same-certificate-check : (certificate : List ℕ) (id sig batch : ℕ) → r ≡ checks.code_of (certificate_check members certificate id sig batch) → s ≡ checks.code_of (certificate_check members certificate id sig batch) → r ≡ s
+  pub same-certificate-check : (certificate : List ℕ) (id sig batch : ℕ) → r ≡ code_of (certificate_check members certificate id sig batch) → s ≡ code_of (certificate_check members certificate id sig batch) → r ≡ s
   same-certificate-check certificate id sig batch p q = p ∙ sym q
 
 -- ---- the proposer: answer, state and header, of `tundrimela_proposer_start` and of `tundrimela_proposer_event`

@@ -6,7 +6,7 @@ ghost use Rattle.node.specs.Promises.{CountVote, CountCertificate};
 pub fn tundrimela_count_vote(members: &[u8], voters: &mut [u8], author: &[u8]) -> u64
     ensures { CountVote members.now voters.old author.now result voters.new }
 {
-    aggregators::answers::code(aggregators::votes::count_vote(members, voters, author))
+    refusal::code(aggregators::votes::count_vote(members, voters, author))
 }
 
 // A certificate more of a round: how many digests are given, at the front of out.
@@ -20,7 +20,7 @@ pub fn tundrimela_count_certificate(
 ) -> u64
     ensures { CountCertificate members.now counts.old round origin.now digest.now out.old result counts.new out.new }
 {
-    aggregators::answers::code(aggregators::certificates::count_certificate(
+    refusal::code(aggregators::certificates::count_certificate(
         members, counts, round, origin, digest, out,
     ))
 }

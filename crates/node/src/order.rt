@@ -11,5 +11,5 @@ pub fn tundrimela_ordering_start(
 ) -> u64
     ensures { OrderingStart setup.now genesis.now state.old table.old result state.new table.new }
 {
-    ordering::answers::code(ordering::start::start(setup, genesis, state, table))
+    refusal::long_code(ordering::start::start(setup, genesis, state, table))
 }

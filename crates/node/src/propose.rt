@@ -16,7 +16,7 @@ pub fn tundrimela_proposer_start(
 ) -> u64
     ensures { Proposed (start_after members.now own.now genesis.now header_size timer state.old header.old) result state.new header.new }
 {
-    proposer::events::code(proposer::start::proposer_start(
+    refusal::code(proposer::start::proposer_start(
         members,
         own,
         genesis,
@@ -41,7 +41,7 @@ pub fn tundrimela_proposer_event(
 ) -> u64
     ensures { Proposed (event_after tag p parents.now digest.now worker header_size timer state.old header.old) result state.new header.new }
 {
-    proposer::events::code(proposer::events::proposer_event(
+    refusal::code(proposer::events::proposer_event(
         tag,
         p,
         parents,

@@ -1,6 +1,7 @@
 // Questions on a member list. All slices are read, none is written.
 ghost use Rattle.std.specs.Prelude.{◌≡◌};
-ghost use Rattle.config.specs.Answers.{code_of, committee_answer, setup_answer, quorum_answer, validity_answer, stake_answer, worker_answer, leader_answer};
+ghost use Rattle.refusal.specs.Answers.{code_of};
+ghost use Rattle.config.specs.Answers.{committee_answer, setup_answer, quorum_answer, validity_answer, stake_answer, worker_answer, leader_answer};
 
 // How many members a lawful member list has.
 #[unsafe(no_mangle)]

@@ -1,6 +1,7 @@
 // Parents and payload of a header, and the known table.
 ghost use Rattle.std.specs.Prelude.{◌≡◌};
-ghost use Rattle.synchronizer.specs.Answers.{code_of, deliver_answer};
+ghost use Rattle.refusal.specs.Answers.{code_of};
+ghost use Rattle.synchronizer.specs.Answers.{deliver_answer};
 ghost use Rattle.node.specs.Promises.{GetParents, MissingPayload, Learn};
 
 // The missing parents of a header, in parent order, at the front of out; how many there are.

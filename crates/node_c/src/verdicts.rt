@@ -1,6 +1,6 @@
 // The checks of header, vote and certificate. A verdict of the host is 1 for yes and 0 for no. All slices are read, none is written.
 ghost use Rattle.std.specs.Prelude.{◌≡◌};
-ghost use Rattle.checks.specs.Answers.{code_of};
+ghost use Rattle.refusal.specs.Answers.{code_of};
 ghost use Rattle.checks.specs.Header.{header_check};
 ghost use Rattle.checks.specs.Vote.{vote_check};
 ghost use Rattle.checks.specs.Certificate.{certificate_check};

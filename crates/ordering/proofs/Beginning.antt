@@ -22,10 +22,10 @@ use Rattle.genesis.proofs.Laws.{valid-genesis, digest-length}
 use Rattle.consensus.specs.Table.{genesis}
 use Rattle.held.specs.Rows.{row_of, head_of, cert_with}
 use Rattle.held.proofs.Putting.{certs-fit, row-size}
-use Rattle.ordering.specs.Answers.{count_of}
 use Rattle.ordering.specs.Start.{room_for, valid_start, start_answer, digests_of, genesis_rows, fresh_table, fresh_state, Started}
-use Rattle.ordering.specs.declared.answers.Answer.{Answer}
-use Rattle.ordering.specs.declared.answers.Answer.TheVariants.{Done, BadCommittee, BadShape}
+use Rattle.refusal.specs.Answers.{Answer, value_of}
+use Rattle.std.specs.Prelude.{Ok, Err}
+use Rattle.refusal.specs.declared.Refusal.TheVariants.{BadCommittee, BadShape}
 use Rattle.ordering.proofs.Replies.{when-done, when-committee, when-shape}
 use Rattle.ordering.proofs.Zeros.{zeros, length-zeros, zeros-add, part-zeros, cleared}
 
@@ -144,7 +144,6 @@ digest-at (r ∷ rs) (suc i) h = digest-at rs i (omega arith)
 
 -- ---- `put_rows`: the first i rows stand behind each other, and zeros past them
 pub record Filling (g : List ℕ) (n : ℕ) (t₀ t : List ℕ) (i : ℕ) : Type 0 where
-  pub high : i ≤ n
   pub same : length t ≡ length t₀
   pub is : t ≡ splice t₀ 8 (flat (take i (genesis_rows (map record_digest (items 68 g 0 n)))))
 
@@ -165,7 +164,7 @@ module _ (g : List ℕ) (n : ℕ) (t₀ : List ℕ) (few : n ≤ 32) (hg : n * 6
 
   pub filling-start : Filling g n t₀ t₀ 0
   unfolding flat splice
-  filling-start = record { high = omega arith; same = refl; is = sym (take-append-drop 8 t₀) }
+  filling-start = record { same = refl; is = sym (take-append-drop 8 t₀) }
 
   module _ (t : List ℕ) (i : ℕ) (x : Filling g n t₀ t i) where
     pub filling-done : n ≤ i → t ≡ splice t₀ 8 (flat (genesis_rows (map record_digest (items 68 g 0 n))))
@@ -215,7 +214,6 @@ module _ (g : List ℕ) (n : ℕ) (t₀ : List ℕ) (few : n ≤ 32) (hg : n * 6
             let y : flat (take (i + 1) (genesis_rows ds)) ≡ flat (take i (genesis_rows ds)) ++ row =
             rw (add-one, take-suc (genesis_rows ds) i [] (omega arith), flat_append, flat-one) (rw rr) in
             record {
-              high = omega arith;
               same = ap length w ∙ length-splice t (8 + i * 1062) row (omega (arith, x.same)) ∙ x.same;
               is =
                   w
@@ -296,10 +294,10 @@ fits ms g s t v x =
 
 -- ---- `start`
 module _ (setup g s t : List ℕ) (v : Bool) (ev : v ≡ valid_setup setup) where
-  pub start-no : not v ≡ true → Started setup g s t BadCommittee s t
+  pub start-no : not v ≡ true → Started setup g s t (Err BadCommittee) s t
   unfolding start_answer
   start-no f =
-      let e : start_answer setup g s t ≡ BadCommittee = rw (sym ev ∙ not-true v f, start_answer) in
+      let e : start_answer setup g s t ≡ (Err BadCommittee) = rw (sym ev ∙ not-true v f, start_answer) in
       record { answer = sym e; state = sym (when-committee (start_answer setup g s t) _ s e); table = sym (when-committee (start_answer setup g s t) _ t e) }
 
   module _ (fv : not v ≡ false) where
@@ -313,10 +311,10 @@ module _ (setup g s t : List ℕ) (v : Bool) (ev : v ≡ valid_setup setup) wher
       test-is : (x : Bool) → b ≡ x → valid_start (drop 8 setup) g s t ≡ x
       test-is x q = ap (λ (w : List ℕ). valid_start w g s t) (sym em) ∙ sym eb ∙ q
 
-      pub start-shape : not b ≡ true → Started setup g s t BadShape s t
+      pub start-shape : not b ≡ true → Started setup g s t (Err BadShape) s t
       unfolding start_answer
       start-shape f =
-          let e : start_answer setup g s t ≡ BadShape = rw (setup-yes, start_answer, test-is false (not-true b f), start_answer) in
+          let e : start_answer setup g s t ≡ (Err BadShape) = rw (setup-yes, start_answer, test-is false (not-true b f), start_answer) in
           record { answer = sym e; state = sym (when-shape (start_answer setup g s t) _ s e); table = sym (when-shape (start_answer setup g s t) _ t e) }
 
       module _ (f : not b ≡ false) where
@@ -332,10 +330,10 @@ module _ (setup g s t : List ℕ) (v : Bool) (ev : v ≡ valid_setup setup) wher
         pub start-room : 8 + length g / 68 * 1062 ≤ length t
         start-room = omega (arith, fits-is)
 
-        pub start-done : (s' t' : List ℕ) → s' ≡ splice s 0 (replicate (length s) 0) → t' ≡ fresh_table (length t) (digests_of g) → Started setup g s t (Done 0) s' t'
+        pub start-done : (s' t' : List ℕ) → s' ≡ splice s 0 (replicate (length s) 0) → t' ≡ fresh_table (length t) (digests_of g) → Started setup g s t (Ok 0) s' t'
         unfolding start_answer fresh_state
         start-done s' t' es et =
-            let e : start_answer setup g s t ≡ Done 0 = rw (setup-yes, start_answer, test-is true (not-false b f), start_answer) in
+            let e : start_answer setup g s t ≡ Ok 0 = rw (setup-yes, start_answer, test-is true (not-false b f), start_answer) in
             let l : length s ≡ length (members_of (drop 8 setup)) * 4 = valid-is.state ∙ ap (λ (k : ℕ). k * 4) (sym (length-members (drop 8 setup))) in
             record {
               answer = sym e;
@@ -344,14 +342,14 @@ module _ (setup g s t : List ℕ) (v : Bool) (ev : v ≡ valid_setup setup) wher
             }
 
 -- ---- what `code` asks of a start's answer
-none-listed : (setup g s t : List ℕ) → count_of (start_answer setup g s t) ≡ 0
+none-listed : (setup g s t : List ℕ) → value_of (start_answer setup g s t) ≡ 0
 unfolding start_answer
 none-listed setup g s t = go (valid_setup setup) refl (valid_start (drop 8 setup) g s t) refl
   where
-    go : (a : Bool) → valid_setup setup ≡ a → (b : Bool) → valid_start (drop 8 setup) g s t ≡ b → count_of (start_answer setup g s t) ≡ 0
+    go : (a : Bool) → valid_setup setup ≡ a → (b : Bool) → valid_start (drop 8 setup) g s t ≡ b → value_of (start_answer setup g s t) ≡ 0
     go true p true q = rw (p, start_answer, q, start_answer)
     go true p false q = rw (p, start_answer, q, start_answer)
     go false p b q = rw (p, start_answer)
 
-pub start_small : (setup g s t : List ℕ) (r : Answer) (s' t' : List ℕ) → Started setup g s t r s' t' → count_of r < 256 ^ 7
-start_small setup g s t r s' t' x = let e : count_of r ≡ 0 = ap (λ (a : Answer). count_of a) x.answer ∙ none-listed setup g s t in omega arith
+pub start_small : (setup g s t : List ℕ) (r : Answer) (s' t' : List ℕ) → Started setup g s t r s' t' → value_of r < 256 ^ 7
+start_small setup g s t r s' t' x = let e : value_of r ≡ 0 = ap (λ (a : Answer). value_of a) x.answer ∙ none-listed setup g s t in omega arith

@@ -21,8 +21,9 @@ use Rattle.consensus.specs.Table.{Cert, State, genesis, fresh}
 use Rattle.held.specs.Rows.{origin_in, parent_count, parents_in, cert_of, held_of, lasts_of, state_of, lawful_row, held_shape, row_of}
 use Rattle.held.proofs.Putting.{Fitting, row-cert}
 use Rattle.ordering.specs.Start.{valid_start, start_answer, digests_of, genesis_rows, fresh_table, fresh_state, Started, Fresh}
-use Rattle.ordering.specs.declared.answers.Answer.{Answer}
-use Rattle.ordering.specs.declared.answers.Answer.TheVariants.{Done, BadCommittee, BadShape}
+use Rattle.refusal.specs.Answers.{Answer}
+use Rattle.std.specs.Prelude.{Ok, Err}
+use Rattle.refusal.specs.declared.Refusal.TheVariants.{BadCommittee, BadShape}
 use Rattle.ordering.proofs.Replies.{when-done}
 use Rattle.ordering.proofs.Zeros.{zeros, length-zeros, zeros-add}
 use Rattle.ordering.proofs.Beginning.{length-rows, rows-sized, length-digests, digests-are-sized, valid-start, fits}
@@ -120,13 +121,13 @@ record Answered (setup g s t : List ℕ) : Type 0 where
   setup-in : valid_setup setup ≡ true
   rest_in : valid_start (drop 8 setup) g s t ≡ true
 
-other : (a : Answer) (k : ℕ) → a ≡ BadCommittee → a ≡ Done k → ⊥
+other : (a : Answer) (k : ℕ) → a ≡ Err BadCommittee → a ≡ Ok k → ⊥
 other a k e f = let z : ◌≡◌ {A = ℕ} 0 1 = cc in omega arith
 
-other-2 : (a : Answer) (k : ℕ) → a ≡ BadShape → a ≡ Done k → ⊥
+other-2 : (a : Answer) (k : ℕ) → a ≡ Err BadShape → a ≡ Ok k → ⊥
 other-2 a k e f = let z : ◌≡◌ {A = ℕ} 0 1 = cc in omega arith
 
-answered : (setup g s t : List ℕ) (k : ℕ) → start_answer setup g s t ≡ Done k → Answered setup g s t
+answered : (setup g s t : List ℕ) (k : ℕ) → start_answer setup g s t ≡ Ok k → Answered setup g s t
 unfolding start_answer
 answered setup g s t k e = go (valid_setup setup) refl (valid_start (drop 8 setup) g s t) refl
   where
@@ -140,8 +141,8 @@ same-state a b p q =
     let k : ◌≡◌ {A = State} (record { last = a.last; held = a.held }) (record { last = b.last; held = b.held }) = rw (p, q) in
     k
 
-module _ (setup g s t : List ℕ) (r : Answer) (s' t' : List ℕ) (k : ℕ) (x : Started setup g s t r s' t') (e : r ≡ Done k) where
-  done : start_answer setup g s t ≡ Done k
+module _ (setup g s t : List ℕ) (r : Answer) (s' t' : List ℕ) (k : ℕ) (x : Started setup g s t r s' t') (e : r ≡ Ok k) where
+  done : start_answer setup g s t ≡ Ok k
   done = sym x.answer ∙ e
 
   pub start-fresh : Fresh setup g t s' t'

@@ -2,9 +2,8 @@
 use mathlib.Core.Path.{◌≡◌, sym, ◌∙◌}
 use mathlib.Core.List.{List}
 use Prim.Native.Nat.{ℕ}
-use Rattle.ordering.specs.Answers.{code_of}
 use Rattle.ordering.specs.Start.{Started}
-use Rattle.ordering.specs.declared.answers.Answer.{Answer}
+use Rattle.refusal.specs.Answers.{Answer, code_of}
 
 pub same_code : (a : Answer) (m n : ℕ) → m ≡ code_of a → n ≡ code_of a → m ≡ n
 same_code a m n p q = p ∙ sym q

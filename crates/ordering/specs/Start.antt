@@ -8,8 +8,9 @@ use Rattle.genesis.specs.Genesis.{record_digest, records_of, valid_genesis}
 use Rattle.consensus.specs.Table.{genesis, fresh}
 use Rattle.held.specs.Rows.{row_of, state_of, held_shape}
 use Rattle.ordering.specs.Answers.{when_done}
-use Rattle.ordering.specs.declared.answers.Answer.{Answer}
-use Rattle.ordering.specs.declared.answers.Answer.TheVariants.{Done, BadCommittee, BadShape}
+use Rattle.refusal.specs.Answers.{Answer}
+use Rattle.std.specs.Prelude.{Ok, Err}
+use Rattle.refusal.specs.declared.Refusal.TheVariants.{BadCommittee, BadShape}
 
 -- ---- what a start takes
 
@@ -24,8 +25,8 @@ valid_start ms g s t = valid_genesis ms g && eqb (length s) (length (members_of 
 unfoldable pub start_answer : List ℕ → List ℕ → List ℕ → List ℕ → Answer
 start_answer setup g s t =
     elim (valid_setup setup) [
-      | false ↦ BadCommittee
-      | true ↦ elim (valid_start (drop 8 setup) g s t) [ true ↦ Done 0 | false ↦ BadShape ]
+      | false ↦ Err BadCommittee
+      | true ↦ elim (valid_start (drop 8 setup) g s t) [ true ↦ Ok 0 | false ↦ Err BadShape ]
     ]
 
 -- ---- what it leaves

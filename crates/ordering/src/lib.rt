@@ -1,5 +1,4 @@
 // The ordering: what a host asks of it, every input answered or refused.
 #![tactic(auto)]
 
-pub mod answers; // the answers and their numbers
 pub mod start; // the start

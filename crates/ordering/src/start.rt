@@ -6,7 +6,7 @@ ghost use Rattle.genesis.specs.Genesis.{record_digest};
 ghost use Rattle.held.specs.Rows.{row_of, cert_with};
 ghost use Rattle.ordering.specs.Start.{room_for, valid_start, digests_of, genesis_rows, fresh_table, Started};
 
-use crate::answers::Answer;
+use refusal::Refusal;
 
 // Whether a table has no byte over and more places than n. What stands in it is not looked at.
 fn has_room(table: &[u8], n: usize) -> bool
@@ -57,11 +57,9 @@ fn put_rows(table: &mut [u8], genesis: &[u8], n: usize)
     requires table_value { table.old ≡ replicate (length table.old) 0 }
     ensures { table.new ≡ splice table.old 8 (flat (genesis_rows (map record_digest (items 68 genesis.now 0 n)))) }
 {
-    let mut i: usize = 0;
-    while i < n {
+    for i in 0..n {
         let one = genesis::digest(wire::items::item(genesis, genesis::RECORD, 0, i));
         put_row(table, i, one);
-        i += 1;
     }
 }
 
@@ -79,17 +77,22 @@ fn start_table(genesis: &[u8], table: &mut [u8])
 }
 
 // Genesis held at round 0, nothing else, and every last committed round 0.
-pub fn start(setup: &[u8], genesis: &[u8], state: &mut [u8], table: &mut [u8]) -> Answer
+pub fn start(
+    setup: &[u8],
+    genesis: &[u8],
+    state: &mut [u8],
+    table: &mut [u8],
+) -> Result<usize, Refusal>
     ensures { Started setup.now genesis.now state.old table.old result state.new table.new }
 {
     if !config::committee::valid_setup(setup) {
-        return Answer::BadCommittee;
+        return Err(Refusal::BadCommittee);
     }
     if !is_start(config::committee::members_of(setup), genesis, state, table) {
-        return Answer::BadShape;
+        return Err(Refusal::BadShape);
     }
     start_table(genesis, table);
     let size = state.len();
     wire::parts::clear_bytes(state, 0, size);
-    Answer::Done(0)
+    Ok(0)
 }

@@ -13,19 +13,20 @@ use borrow.Author.Tests.{eq-eqb, ne_eqb, eqb-true, le-leb, lt-leb, not-true, not
 use Rattle.wire.specs.Bytes.{splice}
 use Rattle.wire.specs.Items.{items, item_in, flat}
 use Rattle.wire.proofs.Laws.{length-splice}
-use Rattle.wire.proofs.Lists.{Sized, none, one, sized-take, length-items, items-sized, item-fits, item-is, item-length, length-flat, flat_append, flat-one}
+use Rattle.wire.proofs.Lists.{Sized, none, one, sized-take, length-items, items-sized, item-is, item-length, length-flat, flat_append, flat-one}
 use Rattle.config.specs.Members.{members_of}
 use Rattle.config.specs.Committee.{valid_members, standing_of}
 use Rattle.config.specs.declared.committee.Standing.{Standing}
-use Rattle.config.specs.declared.committee.Standing.TheVariants.{Member, Stranger}
+use Rattle.std.specs.Prelude.{Option, Some, None}
 use Rattle.config.proofs.Laws.{valid}
 use Rattle.genesis.specs.Genesis.{record_digest, records_of, valid_genesis}
 use Rattle.genesis.proofs.Laws.{valid-genesis, digest-length}
 use Rattle.proposer.specs.State.{zeros, waiting_count, valid_state, next_round, advanced}
 use Rattle.proposer.specs.Events.{Left, settled}
 use Rattle.proposer.specs.Start.{digests_in, started, valid_start, start_after}
-use Rattle.proposer.specs.declared.events.Answer.{Answer}
-use Rattle.proposer.specs.declared.events.Answer.TheVariants.{BadCommittee, BadShape}
+use Rattle.refusal.specs.Answers.{Answer}
+use Rattle.std.specs.Prelude.{Err}
+use Rattle.refusal.specs.declared.Refusal.TheVariants.{BadCommittee, BadShape}
 use Rattle.proposer.proofs.Splices.{splice-none, splice-join, get_after}
 use Rattle.proposer.proofs.Values.{and_left, and_right}
 use Rattle.proposer.proofs.Making.{length-zeros, all-zeros}
@@ -66,9 +67,6 @@ module _ (g : List ℕ) (n : ℕ) (s₀ : List ℕ) (l : length s₀ ≡ 3366) (
         x.is ∙ rw (take_all i (digests_in (items 68 g 0 n)) (omega (arith, length-items 68 g 0 n)))
 
     module _ (m : i < n) where
-      pub gathered-fits : 0 + i * 68 + 68 ≤ length g
-      gathered-fits = item-fits 68 g 0 n (omega arith) i m
-
       pub gathered-item : (r : List ℕ) → r ≡ item_in 68 g 0 i → length r ≡ 68
       gathered-item r e = ap length e ∙ item-length 68 g 0 n (omega arith) i m
 
@@ -190,22 +188,22 @@ module _ (ms g : List ℕ) (size timer : ℕ) (s h : List ℕ) where
 
 -- ---- `proposer_start`
 module _ (ms own g : List ℕ) (size timer : ℕ) (s h : List ℕ) (v : Bool) (ev : v ≡ valid_members ms) where
-  pub start-no : not v ≡ true → Left (start_after ms own g size timer s h) BadCommittee s h
+  pub start-no : not v ≡ true → Left (start_after ms own g size timer s h) (Err BadCommittee) s h
   unfolding start_after
   start-no f = rw (sym ev ∙ not-true v f, start_after) (record { answer = refl; state = refl; header = refl })
 
   module _ (fv : not v ≡ false) where
-    pub start-own : (length own ≡ 32 → ⊥) → Left (start_after ms own g size timer s h) BadShape s h
+    pub start-own : (length own ≡ 32 → ⊥) → Left (start_after ms own g size timer s h) (Err BadShape) s h
     unfolding start_after
     start-own a = rw (sym ev ∙ not-false v fv, start_after, ne_eqb _ _ a, start_after) (record { answer = refl; state = refl; header = refl })
 
-    module _ (a : length own ≡ 32) (x : Standing) (ex : x ≡ standing_of (members_of ms) own) where
-      pub start-stranger : x ≡ Stranger → Left (start_after ms own g size timer s h) BadCommittee s h
+    module _ (a : length own ≡ 32) (x : Option Standing) (ex : x ≡ standing_of (members_of ms) own) where
+      pub start-stranger : x ≡ None → Left (start_after ms own g size timer s h) (Err BadCommittee) s h
       unfolding start_after
       start-stranger b = rw (sym ev ∙ not-false v fv, start_after, eq-eqb _ _ a, start_after, sym ex ∙ b, start_after) (record { answer = refl; state = refl; header = refl })
 
-      module _ (i w : ℕ) (b : x ≡ Member i w) (t : Bool) (et : t ≡ valid_start ms g size timer s h) where
-        pub start-shape : not t ≡ true → Left (start_after ms own g size timer s h) BadShape s h
+      module _ (m : Standing) (b : x ≡ Some m) (t : Bool) (et : t ≡ valid_start ms g size timer s h) where
+        pub start-shape : not t ≡ true → Left (start_after ms own g size timer s h) (Err BadShape) s h
         unfolding start_after
         start-shape f = rw (sym ev ∙ not-false v fv, start_after, eq-eqb _ _ a, start_after, sym ex ∙ b, start_after, sym et ∙ not-true t f, start_after) (record { answer = refl; state = refl; header = refl })
 

@@ -15,7 +15,8 @@ use Rattle.proposer.specs.State.{zeros, own_in, round_in, parent_count, waiting_
 use Rattle.proposer.specs.Header.{with_list, header_of, header_made}
 use Rattle.proposer.specs.Events.{After, settled, received, valid_parents, parents_after, valid_digest, digest_after, valid_call, by_tag, event_after}
 use Rattle.proposer.specs.Start.{digests_in, started, valid_start, start_after}
-use Rattle.proposer.specs.declared.events.Answer.TheVariants.{Done, BadCommittee, BadShape, NoRoom}
+use Rattle.std.specs.Prelude.{Ok, Err}
+use Rattle.refusal.specs.declared.Refusal.TheVariants.{BadCommittee, BadShape, NoRoom}
 
 -- a digest, and one with a worker id
 abbrev digest : ℕ → List ℕ
@@ -85,25 +86,25 @@ event tag p parents d size timer s = event_after tag p parents d 0 size timer s 
 
 pub record Told : Type 0 where
   pub below-dropped : received 4 (digest 6) five ≡ five
-  pub dropped-makes : (event 1 4 (digest 6) [] 0 0 five).answer ≡ Done 1
+  pub dropped-makes : (event 1 4 (digest 6) [] 0 0 five).answer ≡ Ok 1
   pub current-taken : round_in (received 5 (digest 6) five) ≡ 6
   pub replaced : parents_in (received 5 (digest 6) five) ≡ digest 6 ∷ []
-  pub empty-replaces : (event 1 5 [] [] 0 1 five).answer ≡ Done 0
+  pub empty-replaces : (event 1 5 [] [] 0 1 five).answer ≡ Ok 0
   pub last-round : round_in (received 4294967294 [] five) ≡ 4294967295
-  pub past-last : (event 1 4294967295 [] [] 0 0 five).answer ≡ BadShape
-  pub parents-32 : (event 1 5 (replicate 1024 0) [] 1 0 five).answer ≡ Done 0
-  pub parents-33 : (event 1 0 (replicate 1056 0) [] 1 0 five).answer ≡ BadShape
-  pub parent-cut : (event 1 5 (replicate 31 0) [] 1 0 five).answer ≡ BadShape
-  pub digest-64 : (event 2 0 [] (digest 1) 4294967295 0 sixty-three).answer ≡ Done 0
-  pub digest-65 : (event 2 0 [] (digest 1) 0 1 sixty-four).answer ≡ NoRoom
-  pub digest-cut : (event 2 0 [] (replicate 31 0) 0 1 sixty-four).answer ≡ BadShape
-  pub not-looked-at : (event 3 4294967295 (1 ∷ []) (1 ∷ []) 65 0 twice).answer ≡ Done 0
-  pub timer-out : (event 3 0 [] [] 65 1 twice).answer ≡ Done 1
-  pub timer-2 : (event 3 0 [] [] 65 2 twice).answer ≡ BadShape
-  pub size-most : (event 3 0 [] [] 4294967295 1 twice).answer ≡ Done 1
-  pub size-over : (event 3 0 [] [] 4294967296 1 twice).answer ≡ BadShape
-  pub tag-0 : (event 0 0 [] [] 0 1 twice).answer ≡ BadShape
-  pub tag-4 : (event 4 0 [] [] 0 1 twice).answer ≡ BadShape
+  pub past-last : (event 1 4294967295 [] [] 0 0 five).answer ≡ Err BadShape
+  pub parents-32 : (event 1 5 (replicate 1024 0) [] 1 0 five).answer ≡ Ok 0
+  pub parents-33 : (event 1 0 (replicate 1056 0) [] 1 0 five).answer ≡ Err BadShape
+  pub parent-cut : (event 1 5 (replicate 31 0) [] 1 0 five).answer ≡ Err BadShape
+  pub digest-64 : (event 2 0 [] (digest 1) 4294967295 0 sixty-three).answer ≡ Ok 0
+  pub digest-65 : (event 2 0 [] (digest 1) 0 1 sixty-four).answer ≡ Err NoRoom
+  pub digest-cut : (event 2 0 [] (replicate 31 0) 0 1 sixty-four).answer ≡ Err BadShape
+  pub not-looked-at : (event 3 4294967295 (1 ∷ []) (1 ∷ []) 65 0 twice).answer ≡ Ok 0
+  pub timer-out : (event 3 0 [] [] 65 1 twice).answer ≡ Ok 1
+  pub timer-2 : (event 3 0 [] [] 65 2 twice).answer ≡ Err BadShape
+  pub size-most : (event 3 0 [] [] 4294967295 1 twice).answer ≡ Ok 1
+  pub size-over : (event 3 0 [] [] 4294967296 1 twice).answer ≡ Err BadShape
+  pub tag-0 : (event 0 0 [] [] 0 1 twice).answer ≡ Err BadShape
+  pub tag-4 : (event 4 0 [] [] 0 1 twice).answer ≡ Err BadShape
   pub emptied-then : parents_in (event 3 0 [] [] 65 1 twice).state ≡ []
   pub next-round : round_in (event 3 0 [] [] 65 1 twice).state ≡ 5
   pub id-zero : part (event 3 0 [] [] 65 1 twice).header 0 32 ≡ digest 0
@@ -156,18 +157,18 @@ abbrev start : List ℕ → List ℕ → List ℕ → ℕ → After
 start members own records size = start_after members own records size 0 (replicate 3366 7) (replicate 3402 7)
 
 pub record Starts : Type 0 where
-  pub at_once : (start member (digest 9) genesis 0).answer ≡ Done 1
+  pub at_once : (start member (digest 9) genesis 0).answer ≡ Ok 1
   pub round-1 : round_in (start member (digest 9) genesis 0).state ≡ 1
   pub header : items 32 (start member (digest 9) genesis 0).header 74 1 ≡ digest 5 ∷ []
-  pub waits : (start member (digest 9) genesis 1).answer ≡ Done 0
+  pub waits : (start member (digest 9) genesis 1).answer ≡ Ok 0
   pub genesis-parents : parents_in (start member (digest 9) genesis 1).state ≡ digest 5 ∷ []
   pub none-waiting : waiting_in (start member (digest 9) genesis 1).state ≡ []
-  pub stranger : (start member (digest 8) genesis 0).answer ≡ BadCommittee
-  pub own-cut : (start member (replicate 31 9) genesis 0).answer ≡ BadShape
-  pub both-wrong : (start [] (replicate 31 9) genesis 0).answer ≡ BadCommittee
-  pub other-genesis : (start member (digest 9) (bytes 4 0 ++ (digest 8 ++ digest 5)) 0).answer ≡ BadShape
-  pub genesis-round-1 : (start member (digest 9) (bytes 4 1 ++ (digest 9 ++ digest 5)) 0).answer ≡ BadShape
-  pub no-genesis : (start member (digest 9) [] 0).answer ≡ BadShape
+  pub stranger : (start member (digest 8) genesis 0).answer ≡ Err BadCommittee
+  pub own-cut : (start member (replicate 31 9) genesis 0).answer ≡ Err BadShape
+  pub both-wrong : (start [] (replicate 31 9) genesis 0).answer ≡ Err BadCommittee
+  pub other-genesis : (start member (digest 9) (bytes 4 0 ++ (digest 8 ++ digest 5)) 0).answer ≡ Err BadShape
+  pub genesis-round-1 : (start member (digest 9) (bytes 4 1 ++ (digest 9 ++ digest 5)) 0).answer ≡ Err BadShape
+  pub no-genesis : (start member (digest 9) [] 0).answer ≡ Err BadShape
 
 pub starts : Starts
 unfolding zeros splice part word bytes chunks items flat less alike key_of keys ascends ascends_from first_of has_part sum_of all_of not_below put_in sorted_from sorted_once own_in round_in parent_count waiting_count parents_in waiting_in payload_size due_header next_round advanced emptied with_list header_of header_made settled members_of stake_in worker_count lawful total valid_members standing_of record_round record_origin record_digest records_of belongs paired distinct valid_genesis digests_in started valid_start start_after

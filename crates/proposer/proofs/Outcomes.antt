@@ -9,29 +9,12 @@ use lib.ListN.{length}
 use borrow.Author.Tests.{eq-eqb, ne_eqb, eqb-true, le-ltb, lt-ltb, le-leb, lt-leb, not-true, not-false}
 use Rattle.proposer.specs.State.{round_in, waiting_count, valid_state, due_header, digests_of, advanced, added, emptied}
 use Rattle.proposer.specs.Header.{header_made}
-use Rattle.proposer.specs.Events.{code_of, Left, settled, received, valid_parents, parents_after, valid_digest, digest_after, valid_call, by_tag, event_after}
-use Rattle.proposer.specs.declared.events.Answer.{Answer}
-use Rattle.proposer.specs.declared.events.Answer.TheVariants.{Done, BadCommittee, BadShape, NoRoom}
+use Rattle.proposer.specs.Events.{Left, settled, received, valid_parents, parents_after, valid_digest, digest_after, valid_call, by_tag, event_after}
+use Rattle.refusal.specs.Answers.{Answer}
+use Rattle.std.specs.Prelude.{Ok, Err}
+use Rattle.refusal.specs.declared.Refusal.TheVariants.{BadCommittee, BadShape, NoRoom}
 use Rattle.proposer.proofs.Values.{and_left, and_right, is_state, state-size, length-digests}
 use Rattle.proposer.proofs.Meaning.{state-advanced, state-added, digests-sized}
-
--- ---- `code`
-module _ (a : Answer) where
-  pub code-done : (n : ℕ) → a ≡ Done n → 256 * n ≡ code_of a
-  unfolding code_of
-  code-done n e = rw e (omega arith)
-
-  pub code-committee : a ≡ BadCommittee → 10 ≡ code_of a
-  unfolding code_of
-  code-committee e = rw e
-
-  pub code_shape : a ≡ BadShape → 11 ≡ code_of a
-  unfolding code_of
-  code_shape e = rw e
-
-  pub code-room : a ≡ NoRoom → 12 ≡ code_of a
-  unfolding code_of
-  code-room e = rw e
 
 -- ---- `is_call`: the tests one after the other
 module _ (size timer : ℕ) (s h : List ℕ) where
@@ -68,29 +51,29 @@ module _ (size timer : ℕ) (s h : List ℕ) where
 
 -- ---- `settle`
 module _ (size timer : ℕ) (s h : List ℕ) (t : Bool) (e : t ≡ due_header size timer s) where
-  pub settled-not : not t ≡ true → Left (settled size timer s h) (Done 0) s h
+  pub settled-not : not t ≡ true → Left (settled size timer s h) (Ok 0) s h
   unfolding settled
   settled-not f = rw (sym e ∙ not-true t f, settled) (record { answer = refl; state = refl; header = refl })
 
-  pub settled-made : (s' h' : List ℕ) → not t ≡ false → h' ≡ header_made s → s' ≡ emptied s → Left (settled size timer s h) (Done 1) s' h'
+  pub settled-made : (s' h' : List ℕ) → not t ≡ false → h' ≡ header_made s → s' ≡ emptied s → Left (settled size timer s h) (Ok 1) s' h'
   unfolding settled
   settled-made s' h' f a b = rw (sym e ∙ not-false t f, settled) (record { answer = refl; state = b; header = a })
 
 -- ---- `on_parents`
 module _ (p : ℕ) (ps : List ℕ) (size timer : ℕ) (s h : List ℕ) where
-  parents-no : valid_parents p ps ≡ false → Left (parents_after p ps size timer s h) BadShape s h
+  parents-no : valid_parents p ps ≡ false → Left (parents_after p ps size timer s h) (Err BadShape) s h
   unfolding parents_after
   parents-no e = rw (e, parents_after) (record { answer = refl; state = refl; header = refl })
 
-  pub parents-late : 4294967294 < p → Left (parents_after p ps size timer s h) BadShape s h
+  pub parents-late : 4294967294 < p → Left (parents_after p ps size timer s h) (Err BadShape) s h
   unfolding valid_parents
   parents-late a = parents-no (rw (lt-leb _ _ a))
 
-  pub parents-ragged : p ≤ 4294967294 → (length ps % 32 ≡ 0 → ⊥) → Left (parents_after p ps size timer s h) BadShape s h
+  pub parents-ragged : p ≤ 4294967294 → (length ps % 32 ≡ 0 → ⊥) → Left (parents_after p ps size timer s h) (Err BadShape) s h
   unfolding valid_parents
   parents-ragged a b = parents-no (rw (le-leb _ _ a, ne_eqb _ _ b))
 
-  pub parents-many : p ≤ 4294967294 → length ps % 32 ≡ 0 → 32 < length ps / 32 → Left (parents_after p ps size timer s h) BadShape s h
+  pub parents-many : p ≤ 4294967294 → length ps % 32 ≡ 0 → 32 < length ps / 32 → Left (parents_after p ps size timer s h) (Err BadShape) s h
   unfolding valid_parents
   parents-many a b c = parents-no (rw (le-leb _ _ a, eq-eqb _ _ b, lt-leb _ _ c))
 
@@ -119,15 +102,15 @@ module _ (p : ℕ) (ps : List ℕ) (size timer : ℕ) (s h : List ℕ) where
 
 -- ---- `on_digest`
 module _ (digest : List ℕ) (worker size timer : ℕ) (s h : List ℕ) where
-  digest-no : valid_digest digest worker ≡ false → Left (digest_after digest worker size timer s h) BadShape s h
+  digest-no : valid_digest digest worker ≡ false → Left (digest_after digest worker size timer s h) (Err BadShape) s h
   unfolding digest_after
   digest-no e = rw (e, digest_after) (record { answer = refl; state = refl; header = refl })
 
-  pub digest-short : (length digest ≡ 32 → ⊥) → Left (digest_after digest worker size timer s h) BadShape s h
+  pub digest-short : (length digest ≡ 32 → ⊥) → Left (digest_after digest worker size timer s h) (Err BadShape) s h
   unfolding valid_digest
   digest-short a = digest-no (rw (ne_eqb _ _ a))
 
-  pub digest-worker : length digest ≡ 32 → 4294967295 < worker → Left (digest_after digest worker size timer s h) BadShape s h
+  pub digest-worker : length digest ≡ 32 → 4294967295 < worker → Left (digest_after digest worker size timer s h) (Err BadShape) s h
   unfolding valid_digest
   digest-worker a b = digest-no (rw (eq-eqb _ _ a, lt-leb _ _ b))
 
@@ -136,7 +119,7 @@ module _ (digest : List ℕ) (worker size timer : ℕ) (s h : List ℕ) where
     unfolding valid_digest
     digest-yes = rw (eq-eqb _ _ a, le-leb _ _ b)
 
-    pub digest-full : 64 ≤ n → Left (digest_after digest worker size timer s h) NoRoom s h
+    pub digest-full : 64 ≤ n → Left (digest_after digest worker size timer s h) (Err NoRoom) s h
     unfolding digest_after
     digest-full l =
         let k : 64 ≤ waiting_count s = omega arith in
@@ -156,7 +139,7 @@ module _ (digest : List ℕ) (worker size timer : ℕ) (s h : List ℕ) where
 
 -- ---- `proposer_event`
 module _ (tag p : ℕ) (ps digest : List ℕ) (worker size timer : ℕ) (s h : List ℕ) (t : Bool) (e : t ≡ valid_call size timer s h) where
-  pub event-no : not t ≡ true → Left (event_after tag p ps digest worker size timer s h) BadShape s h
+  pub event-no : not t ≡ true → Left (event_after tag p ps digest worker size timer s h) (Err BadShape) s h
   unfolding event_after
   event-no f = rw (sym e ∙ not-true t f, event_after) (record { answer = refl; state = refl; header = refl })
 
@@ -178,6 +161,6 @@ module _ (tag p : ℕ) (ps digest : List ℕ) (worker size timer : ℕ) (s h : L
       unfolding by_tag
       event-timer a x = rw (event-yes, ne_eqb tag 1 (λ z. omega arith), ne_eqb tag 2 (λ z. omega arith), eq-eqb _ _ a, by_tag) x
 
-    pub event-other : (tag ≡ 1 → ⊥) → (tag ≡ 2 → ⊥) → (tag ≡ 3 → ⊥) → Left (event_after tag p ps digest worker size timer s h) BadShape s h
+    pub event-other : (tag ≡ 1 → ⊥) → (tag ≡ 2 → ⊥) → (tag ≡ 3 → ⊥) → Left (event_after tag p ps digest worker size timer s h) (Err BadShape) s h
     unfolding by_tag
     event-other a b c = rw (event-yes, ne_eqb _ _ a, ne_eqb _ _ b, ne_eqb _ _ c, by_tag) (record { answer = refl; state = refl; header = refl })

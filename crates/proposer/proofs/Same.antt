@@ -2,9 +2,9 @@
 use mathlib.Core.Path.{◌≡◌, sym, ◌∙◌}
 use mathlib.Core.List.{List}
 use Prim.Native.Nat.{ℕ}
-use Rattle.proposer.specs.Events.{code_of, After, Left, event_after}
+use Rattle.proposer.specs.Events.{After, Left, event_after}
 use Rattle.proposer.specs.Start.{start_after}
-use Rattle.proposer.specs.declared.events.Answer.{Answer}
+use Rattle.refusal.specs.Answers.{Answer, code_of}
 
 pub record Same (r r' : Answer) (s s' h h' : List ℕ) : Type 0 where
   pub answer : r ≡ r'

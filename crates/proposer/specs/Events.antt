@@ -3,25 +3,9 @@
 use Rattle.std.specs.Prelude.{◌≡◌, ℕ, ◌+◌, ◌*◌, ◌/◌, ◌%◌, Bool, true, false, ◌&&◌, List, length, eqb, ltb, leb}
 use Rattle.proposer.specs.State.{round_in, waiting_count, valid_state, due_header, digests_of, advanced, added, emptied}
 use Rattle.proposer.specs.Header.{header_made}
-use Rattle.proposer.specs.declared.events.Answer.{Answer}
-use Rattle.proposer.specs.declared.events.Answer.TheVariants.{Done, BadCommittee, BadShape, NoRoom}
-
--- document 01's number of each answer, 0 where it is no refusal; and its value
-abbrev pub number_of : Answer → ℕ
-number_of (Done n) = 0
-number_of BadCommittee = 10
-number_of BadShape = 11
-number_of NoRoom = 12
-
-abbrev pub value_of : Answer → ℕ
-value_of (Done n) = n
-value_of BadCommittee = 0
-value_of BadShape = 0
-value_of NoRoom = 0
-
--- both as one number
-unfoldable pub code_of : Answer → ℕ
-code_of a = number_of a + 256 * value_of a
+use Rattle.refusal.specs.Answers.{Answer}
+use Rattle.std.specs.Prelude.{Ok, Err}
+use Rattle.refusal.specs.declared.Refusal.TheVariants.{BadCommittee, BadShape, NoRoom}
 
 -- an answer, with what state and header hold then
 pub record After : Type 0 where
@@ -43,8 +27,8 @@ kept a s h = record { answer = a; state = s; header = h }
 unfoldable pub settled : ℕ → ℕ → List ℕ → List ℕ → After
 settled size timer s h =
     elim (due_header size timer s) [
-      | true ↦ record { answer = Done 1; state = emptied s; header = header_made s }
-      | false ↦ kept (Done 0) s h
+      | true ↦ record { answer = Ok 1; state = emptied s; header = header_made s }
+      | false ↦ kept (Ok 0) s h
     ]
 
 -- parents of round p: dropped if p is below the current round, else the round becomes p + 1 and the parents are replaced
@@ -59,7 +43,7 @@ unfoldable pub parents_after : ℕ → List ℕ → ℕ → ℕ → List ℕ →
 parents_after p parents size timer s h =
     elim (valid_parents p parents) [
       | true ↦ settled size timer (received p parents s) h
-      | false ↦ kept BadShape s h
+      | false ↦ kept (Err BadShape) s h
     ]
 
 -- a digest of 32 bytes, a worker id of 4
@@ -70,8 +54,8 @@ valid_digest digest worker = eqb (length digest) 32 && leb worker 4294967295
 unfoldable pub digest_after : List ℕ → ℕ → ℕ → ℕ → List ℕ → List ℕ → After
 digest_after digest worker size timer s h =
     elim (valid_digest digest worker) [
-      | true ↦ elim (ltb (waiting_count s) 64) [ true ↦ settled size timer (added s digest worker) h | false ↦ kept NoRoom s h ]
-      | false ↦ kept BadShape s h
+      | true ↦ elim (ltb (waiting_count s) 64) [ true ↦ settled size timer (added s digest worker) h | false ↦ kept (Err NoRoom) s h ]
+      | false ↦ kept (Err BadShape) s h
     ]
 
 -- header_size 0 to 4,294,967,295, the timer's verdict 0 or 1, a header's 3,402 bytes, and a state
@@ -86,10 +70,10 @@ by_tag tag p parents digest worker size timer s h =
       | false ↦
           elim (eqb tag 2) [
             | true ↦ digest_after digest worker size timer s h
-            | false ↦ elim (eqb tag 3) [ true ↦ settled size timer s h | false ↦ kept BadShape s h ]
+            | false ↦ elim (eqb tag 3) [ true ↦ settled size timer s h | false ↦ kept (Err BadShape) s h ]
           ]
     ]
 
 unfoldable pub event_after : ℕ → ℕ → List ℕ → List ℕ → ℕ → ℕ → ℕ → List ℕ → List ℕ → After
 event_after tag p parents digest worker size timer s h =
-    elim (valid_call size timer s h) [ true ↦ by_tag tag p parents digest worker size timer s h | false ↦ kept BadShape s h ]
+    elim (valid_call size timer s h) [ true ↦ by_tag tag p parents digest worker size timer s h | false ↦ kept (Err BadShape) s h ]

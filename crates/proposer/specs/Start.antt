@@ -3,11 +3,12 @@ use Rattle.std.specs.Prelude.{ℕ, Bool, true, false, ◌&&◌, List, [], ◌∷
 use Rattle.wire.specs.Bytes.{splice}
 use Rattle.config.specs.Members.{members_of}
 use Rattle.config.specs.Committee.{valid_members, standing_of}
-use Rattle.config.specs.declared.committee.Standing.TheVariants.{Member, Stranger}
+use Rattle.std.specs.Prelude.{Some, None}
 use Rattle.genesis.specs.Genesis.{record_digest, records_of, valid_genesis}
 use Rattle.proposer.specs.State.{zeros, advanced}
 use Rattle.proposer.specs.Events.{After, kept, settled}
-use Rattle.proposer.specs.declared.events.Answer.TheVariants.{BadCommittee, BadShape}
+use Rattle.std.specs.Prelude.{Err}
+use Rattle.refusal.specs.declared.Refusal.TheVariants.{BadCommittee, BadShape}
 
 -- the digest of each record
 unfoldable pub digests_in : List (List ℕ) → List (List ℕ)
@@ -26,17 +27,17 @@ valid_start ms g size timer s h = leb size 4294967295 && leb timer 1 && eqb (len
 unfoldable pub start_after : List ℕ → List ℕ → List ℕ → ℕ → ℕ → List ℕ → List ℕ → After
 start_after ms own g size timer s h =
     elim (valid_members ms) [
-      | false ↦ kept BadCommittee s h
+      | false ↦ kept (Err BadCommittee) s h
       | true ↦
           elim (eqb (length own) 32) [
-            | false ↦ kept BadShape s h
+            | false ↦ kept (Err BadShape) s h
             | true ↦
                 elim (standing_of (members_of ms) own) [
-                  | Stranger ↦ kept BadCommittee s h
-                  | Member i stake ↦
+                  | None ↦ kept (Err BadCommittee) s h
+                  | Some m ↦
                       elim (valid_start ms g size timer s h) [
                         | true ↦ settled size timer (started own g) h
-                        | false ↦ kept BadShape s h
+                        | false ↦ kept (Err BadShape) s h
                       ]
                 ]
           ]

@@ -1,27 +1,9 @@
 // The proposer's events and their answers.
 ghost use Rattle.std.specs.Prelude.{◌≡◌, true, length};
 ghost use Rattle.proposer.specs.State.{valid_state};
-ghost use Rattle.proposer.specs.Events.{Left, code_of, valid_call, settled, parents_after, digest_after, event_after};
+ghost use Rattle.proposer.specs.Events.{Left, valid_call, settled, parents_after, digest_after, event_after};
 
-#[derive(Drop)]
-pub enum Answer {
-    Done(u32), // 1 where a header was made, else 0
-    BadCommittee,
-    BadShape,
-    NoRoom,
-}
-
-// The answer as one number: document 01's number, and 256 times the value.
-pub fn code(answer: Answer) -> u64
-    ensures { result ≡ code_of answer }
-{
-    match answer {
-        Answer::Done(n) => 256 * n as u64,
-        Answer::BadCommittee => 10,
-        Answer::BadShape => 11,
-        Answer::NoRoom => 12,
-    }
-}
+use refusal::Refusal;
 
 // Whether the inputs that every event has are in the domain.
 pub fn is_call(header_size: u64, timer: u8, state: &[u8], header: &[u8]) -> bool
@@ -40,17 +22,22 @@ pub fn is_call(header_size: u64, timer: u8, state: &[u8], header: &[u8]) -> bool
 }
 
 // Makes a header where one is due, and empties the state's lists.
-pub fn settle(header_size: u64, timer: u8, state: &mut [u8], header: &mut [u8]) -> Answer
+pub fn settle(
+    header_size: u64,
+    timer: u8,
+    state: &mut [u8],
+    header: &mut [u8],
+) -> Result<u32, Refusal>
     requires state_value { valid_state state.old ≡ true }
     requires header_len { length header.old ≡ 3402 }
     ensures { Left (settled header_size timer state.old header.old) result state.new header.new }
 {
     if !crate::state::is_due(header_size, timer, state) {
-        return Answer::Done(0);
+        return Ok(0);
     }
     crate::header::fill_header(state, header);
     crate::state::empty(state);
-    Answer::Done(1)
+    Ok(1)
 }
 
 // Parents of round p: dropped where p is below the current round.
@@ -61,19 +48,19 @@ fn on_parents(
     timer: u8,
     state: &mut [u8],
     header: &mut [u8],
-) -> Answer
+) -> Result<u32, Refusal>
     requires state_value { valid_state state.old ≡ true }
     requires header_len { length header.old ≡ 3402 }
     ensures { Left (parents_after p parents.now header_size timer state.old header.old) result state.new header.new }
 {
     if 4294967294 < p {
-        return Answer::BadShape;
+        return Err(Refusal::BadShape);
     }
     if parents.len() % 32 != 0 {
-        return Answer::BadShape;
+        return Err(Refusal::BadShape);
     }
     if 32 < parents.len() / 32 {
-        return Answer::BadShape;
+        return Err(Refusal::BadShape);
     }
     if p < crate::state::round(state) as u64 {
         return settle(header_size, timer, state, header);
@@ -90,19 +77,19 @@ fn on_digest(
     timer: u8,
     state: &mut [u8],
     header: &mut [u8],
-) -> Answer
+) -> Result<u32, Refusal>
     requires state_value { valid_state state.old ≡ true }
     requires header_len { length header.old ≡ 3402 }
     ensures { Left (digest_after digest.now worker header_size timer state.old header.old) result state.new header.new }
 {
     if digest.len() != 32 {
-        return Answer::BadShape;
+        return Err(Refusal::BadShape);
     }
     if 4294967295 < worker {
-        return Answer::BadShape;
+        return Err(Refusal::BadShape);
     }
     if 64 <= crate::state::waiting_count(state) {
-        return Answer::NoRoom;
+        return Err(Refusal::NoRoom);
     }
     crate::state::add(state, digest, worker as u32);
     settle(header_size, timer, state, header)
@@ -119,16 +106,16 @@ pub fn proposer_event(
     timer: u8,
     state: &mut [u8],
     header: &mut [u8],
-) -> Answer
+) -> Result<u32, Refusal>
     ensures { Left (event_after tag p parents.now digest.now worker header_size timer state.old header.old) result state.new header.new }
 {
     if !is_call(header_size, timer, state, header) {
-        return Answer::BadShape;
+        return Err(Refusal::BadShape);
     }
     match tag {
         1 => on_parents(p, parents, header_size, timer, state, header),
         2 => on_digest(digest, worker, header_size, timer, state, header),
         3 => settle(header_size, timer, state, header),
-        _ => Answer::BadShape,
+        _ => Err(Refusal::BadShape),
     }
 }

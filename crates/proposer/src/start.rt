@@ -5,8 +5,7 @@ ghost use Rattle.wire.specs.Items.{items, flat};
 ghost use Rattle.proposer.specs.Events.{Left};
 ghost use Rattle.proposer.specs.Start.{digests_in, started, valid_start, start_after};
 
-use crate::events::Answer;
-use config::committee::Standing;
+use refusal::Refusal;
 
 // The digests of the n records of genesis, one behind the other into state from 38.
 fn put_genesis(state: &mut [u8], genesis: &[u8], n: usize)
@@ -15,11 +14,9 @@ fn put_genesis(state: &mut [u8], genesis: &[u8], n: usize)
     requires n_bound { n ≤ 32 }
     ensures { state.new ≡ splice state.old 38 (flat (digests_in (items 68 genesis.now 0 n))) }
 {
-    let mut i: usize = 0;
-    while i < n {
+    for i in 0..n {
         let one = genesis::digest(wire::items::item(genesis, genesis::RECORD, 0, i));
         wire::parts::put_bytes(state, 38 + i * 32, one);
-        i += 1;
     }
 }
 
@@ -72,20 +69,20 @@ pub fn proposer_start(
     timer: u8,
     state: &mut [u8],
     header: &mut [u8],
-) -> Answer
+) -> Result<u32, Refusal>
     ensures { Left (start_after members.now own.now genesis.now header_size timer state.old header.old) result state.new header.new }
 {
     if !config::committee::valid_members(members) {
-        return Answer::BadCommittee;
+        return Err(Refusal::BadCommittee);
     }
     if own.len() != 32 {
-        return Answer::BadShape;
+        return Err(Refusal::BadShape);
     }
-    let Standing::Member(_, _) = config::committee::standing_of(members, own) else {
-        return Answer::BadCommittee;
+    let Some(_) = config::committee::standing_of(members, own) else {
+        return Err(Refusal::BadCommittee);
     };
     if !is_start(members, genesis, header_size, timer, state, header) {
-        return Answer::BadShape;
+        return Err(Refusal::BadShape);
     }
     start_state(own, genesis, state);
     crate::events::settle(header_size, timer, state, header)

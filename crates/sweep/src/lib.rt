@@ -52,12 +52,10 @@ pub fn keep_from(table: &mut [u8], size: usize, round: u64) -> usize
     ensures value { result ≡ went size (from_round round) table.old }
 {
     let n = table::rows::count(table);
-    let mut i: usize = 0;
     let mut m: usize = 0;
-    while i < n {
+    for i in 0..n {
         let keep = row_from(table::rows::row(table, size, i), round);
         m = move_row(table, size, i, m, keep);
-        i += 1;
     }
     finish(table, size, n, m)
 }

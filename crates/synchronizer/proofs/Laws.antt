@@ -2,17 +2,16 @@
 use mathlib.Core.Path.{◌≡◌, refl, sym, ap, ◌∙◌}
 use mathlib.Core.Bool.{Bool, true, false, not}
 use mathlib.Core.List.{List, []}
-use Prim.Native.Nat.{ℕ, ◌+◌, ◌*◌, ◌/◌, ◌≤◌, ◌<◌}
+use Prim.Native.Nat.{ℕ, ◌+◌, ◌*◌, ◌/◌, ◌≤◌}
 use native.Mathlib.Omega.{arith}
 use lib.Dec.{eqb, ltb}
 use lib.ListN.{length}
 use borrow.Author.Tests.{not-true, not-false}
 use Rattle.wire.specs.Bytes.{part, alike, splice}
 use Rattle.wire.specs.Items.{items, item_in, first_of, has_part, keeps, all_of, flat}
-use Rattle.wire.specs.declared.Found.{Found}
-use Rattle.wire.specs.declared.Found.TheVariants.{At, Nothing}
+use Rattle.std.specs.Prelude.{Option, Some, None}
 use Rattle.wire.proofs.Laws.{part-all, length_part}
-use Rattle.wire.proofs.Lists.{found-is, found-fits, Testing, testing-start, testing-no, testing-yes, testing-done}
+use Rattle.wire.proofs.Lists.{found-is, found-fits}
 use Rattle.table.specs.Rows.{count_of, places, shaped, rows_of}
 use Rattle.table.proofs.Laws.{found-row-is}
 use Rattle.genesis.specs.Genesis.{record_digest, records_of}
@@ -22,29 +21,30 @@ use Rattle.synchronizer.specs.Picked.{Picked}
 use Rattle.synchronizer.specs.Parents.{record_in, parent_of, lacks, missing_parents, has, delivered}
 use Rattle.synchronizer.specs.Payload.{pairs_of, unpaired, missing_payload}
 use Rattle.synchronizer.specs.Known.{learning}
-use Rattle.synchronizer.specs.declared.known.Learning.TheVariants.{Known, New, Full}
+use Rattle.std.specs.Prelude.{Ok, Err}
+use Rattle.refusal.specs.declared.Refusal.TheVariants.{NoRoom}
 use Rattle.synchronizer.proofs.Picking.{Picking, picking-start, picking-done}
 
 -- ---- a parent looked up. f is what the search of genesis answered, h what that of the known table did
-module _ (g k digest : List ℕ) (f : Found) (e : f ≡ first_of (has_part 36 digest) (items 68 g 0 (length g / 68)) 0) where
+module _ (g k digest : List ℕ) (f : Option ℕ) (e : f ≡ first_of (has_part 36 digest) (items 68 g 0 (length g / 68)) 0) where
   in-genesis : f ≡ first_of (has_part 36 digest) (records_of g) 0
   unfolding records_of
   in-genesis = e
 
-  pub genesis-fits : (i : ℕ) → f ≡ At i → 0 + i * 68 + 68 ≤ length g
+  pub genesis-fits : (i : ℕ) → f ≡ Some i → 0 + i * 68 + 68 ≤ length g
   genesis-fits i q = found-fits 68 (has_part 36 digest) g 0 (length g / 68) f i e q (omega arith)
 
-  pub parent-genesis : (i : ℕ) (r : List ℕ) → f ≡ At i → r ≡ item_in 68 g 0 i → r ≡ parent_of (records_of g) (rows_of 68 k) digest
+  pub parent-genesis : (i : ℕ) (r : List ℕ) → f ≡ Some i → r ≡ item_in 68 g 0 i → r ≡ parent_of (records_of g) (rows_of 68 k) digest
   unfolding parent_of record_in records_of
   parent-genesis i r q p =
       found-is 68 (has_part 36 digest) g 0 (length g / 68) f i e q (omega arith) r p ∙ sym (rw (sym e ∙ q, record_in))
 
-  module _ (none : f ≡ Nothing) (h : Found) (d : h ≡ first_of (has_part 36 digest) (rows_of 68 k) 0) where
-    pub parent-known : (i : ℕ) (r : List ℕ) → shaped 68 k ≡ true → h ≡ At i → r ≡ item_in 68 k 8 i → r ≡ parent_of (records_of g) (rows_of 68 k) digest
+  module _ (none : f ≡ None) (h : Option ℕ) (d : h ≡ first_of (has_part 36 digest) (rows_of 68 k) 0) where
+    pub parent-known : (i : ℕ) (r : List ℕ) → shaped 68 k ≡ true → h ≡ Some i → r ≡ item_in 68 k 8 i → r ≡ parent_of (records_of g) (rows_of 68 k) digest
     unfolding parent_of record_in
     parent-known i r s q p = found-row-is 68 (has_part 36 digest) k h i s d q r p ∙ sym (rw (sym in-genesis ∙ none, sym d ∙ q, record_in))
 
-    pub parent-none : h ≡ Nothing → [] ≡ parent_of (records_of g) (rows_of 68 k) digest
+    pub parent-none : h ≡ None → [] ≡ parent_of (records_of g) (rows_of 68 k) digest
     unfolding parent_of record_in
     parent-none q = sym (rw (sym in-genesis ∙ none, sym d ∙ q, record_in))
 
@@ -72,35 +72,17 @@ unfolding missing_parents
 missing-done gs ks h n out₀ out i m e s l = rw (← parents-are h n e) (picking-done 32 (lacks gs ks) h 74 n out₀ out i m s l)
 
 -- ---- delivery
-pub deliver-start : (gs ks : List (List ℕ)) (h : List ℕ) (n : ℕ) → header_shape h ≡ true → n ≡ parent_count h → Testing 32 (has gs ks) h 74 n 0
-deliver-start gs ks h n s e = testing-start 32 (has gs ks) h 74 n (parents-fit h n s e)
-
-module _ (gs ks : List (List ℕ)) (h : List ℕ) (n i : ℕ) (e : n ≡ parent_count h) (s : Testing 32 (has gs ks) h 74 n i) where
-  whole : (b : Bool) → b ≡ all_of (has gs ks) (items 32 h 74 n) → b ≡ delivered gs ks (parents_of h)
-  unfolding delivered
-  whole b q = q ∙ rw (parents-are h n e)
-
-  pub deliver-done : n ≤ i → true ≡ delivered gs ks (parents_of h)
-  deliver-done l = whole true (testing-done 32 (has gs ks) h 74 n i s l)
-
-  module _ (l : i < n) (r : List ℕ) (b : Bool) (er : r ≡ item_in 32 h 74 i) (eb : b ≡ lacks gs ks r) where
-    found : not b ≡ has gs ks r
-    unfolding has
-    found = ap not eb
-
-    pub deliver-no : b ≡ true → false ≡ delivered gs ks (parents_of h)
-    deliver-no q = whole false (testing-no 32 (has gs ks) h 74 n i s l r (not b) er found (rw q))
-
-    pub deliver-yes : b ≡ false → Testing 32 (has gs ks) h 74 n (i + 1)
-    deliver-yes q = testing-yes 32 (has gs ks) h 74 n i s l r (not b) er found (rw q)
+pub deliver-is : (gs ks : List (List ℕ)) (h : List ℕ) (n : ℕ) (b : Bool) → n ≡ parent_count h → b ≡ all_of (has gs ks) (items 32 h 74 n) → b ≡ delivered gs ks (parents_of h)
+unfolding delivered
+deliver-is gs ks h n b e q = q ∙ rw (parents-are h n e)
 
 -- ---- payload
-module _ (ps item : List ℕ) (f : Found) (e : f ≡ first_of (has_part 0 item) (items 36 ps 0 (length ps / 36)) 0) where
-  pub paired : (i : ℕ) → f ≡ At i → false ≡ unpaired (pairs_of ps) item
+module _ (ps item : List ℕ) (f : Option ℕ) (e : f ≡ first_of (has_part 0 item) (items 36 ps 0 (length ps / 36)) 0) where
+  pub paired : (i : ℕ) → f ≡ Some i → false ≡ unpaired (pairs_of ps) item
   unfolding unpaired pairs_of
   paired i q = sym (rw (sym e ∙ q, unpaired))
 
-  pub not-paired : f ≡ Nothing → true ≡ unpaired (pairs_of ps) item
+  pub not-paired : f ≡ None → true ≡ unpaired (pairs_of ps) item
   unfolding unpaired pairs_of
   not-paired q = sym (rw (sym e ∙ q, unpaired))
 
@@ -136,20 +118,20 @@ module _ (own : List ℕ) (pairs : List (List ℕ)) (h a : List ℕ) (b : Bool) 
   other-header out out' m q p = rw (sym by-own ∙ q, missing_payload) p
 
 -- ---- the known table
-module _ (k new digest : List ℕ) (f : Found) (d : digest ≡ record_digest new) (e : f ≡ first_of (has_part 36 digest) (rows_of 68 k) 0) where
+module _ (k new digest : List ℕ) (f : Option ℕ) (d : digest ≡ record_digest new) (e : f ≡ first_of (has_part 36 digest) (rows_of 68 k) 0) where
   searched : f ≡ first_of (has_part 36 (record_digest new)) (rows_of 68 k) 0
   searched = e ∙ rw d
 
-  pub is_known : (i : ℕ) → f ≡ At i → Known ≡ learning k new
+  pub is_known : (i : ℕ) → f ≡ Some i → Ok true ≡ learning k new
   unfolding learning
   is_known i q = sym (rw (sym searched ∙ q, learning))
 
-  module _ (q : f ≡ Nothing) (b : Bool) (r : b ≡ ltb (count_of k) (places 68 k)) where
-    pub no_place : not b ≡ true → Full ≡ learning k new
+  module _ (q : f ≡ None) (b : Bool) (r : b ≡ ltb (count_of k) (places 68 k)) where
+    pub no_place : not b ≡ true → Err NoRoom ≡ learning k new
     unfolding learning
     no_place h = sym (rw (sym searched ∙ q, learning, sym r ∙ not-true b h, learning))
 
-    pub is-new : not b ≡ false → New ≡ learning k new
+    pub is-new : not b ≡ false → Ok false ≡ learning k new
     unfolding learning
     is-new h = sym (rw (sym searched ∙ q, learning, sym r ∙ not-false b h, learning))
 

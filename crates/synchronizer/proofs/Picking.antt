@@ -11,7 +11,7 @@ use borrow.Author.Tests.{not-true, not-false}
 use Rattle.wire.specs.Bytes.{splice}
 use Rattle.wire.specs.Items.{items, item_in, flat, keeps}
 use Rattle.wire.proofs.Laws.{length-splice}
-use Rattle.wire.proofs.Lists.{sized-take, splice-seam, below-mul, length-flat, flat_append, flat-one, keeps-sized, keeps-yes, keeps-no, items-sized, item-is, item-fits, item-length, length-items}
+use Rattle.wire.proofs.Lists.{sized-take, splice-seam, below-mul, length-flat, flat_append, flat-one, keeps-sized, keeps-yes, keeps-no, items-sized, item-is, item-length, length-items}
 use Rattle.synchronizer.specs.Picked.{Picked, Put, put_count, put_buffer}
 
 -- one item put, or not
@@ -75,9 +75,6 @@ module _ (size : ℕ) (test : List ℕ → Bool) (xs : List ℕ) (at n : ℕ) (o
       record { count = s.count ∙ rw e; buffer = s.is ∙ rw e }
 
   module _ (l : i < n) where
-    pub picking-fits : at + i * size + size ≤ length xs
-    picking-fits = item-fits size xs at n s.fits i l
-
     pub picking-item : (r : List ℕ) → r ≡ item_in size xs at i → length r ≡ size
     picking-item r e = ap length e ∙ item-length size xs at n s.fits i l
 

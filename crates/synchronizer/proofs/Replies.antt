@@ -9,8 +9,7 @@ use lib.ListN.{length}
 use borrow.Author.Tests.{eq-eqb, ne_eqb, not-true, not-false, ltb-true}
 use Rattle.wire.specs.Bytes.{part, word, alike}
 use Rattle.wire.specs.Items.{first_of, has_part}
-use Rattle.wire.specs.declared.Found.{Found}
-use Rattle.wire.specs.declared.Found.TheVariants.{At, Nothing}
+use Rattle.std.specs.Prelude.{Option, Some, None}
 use Rattle.wire.proofs.Lists.{keeps_fewer, length-items}
 use Rattle.table.specs.Rows.{count_of, places, shaped, rows_of, appended}
 use Rattle.config.specs.Committee.{valid_members}
@@ -21,29 +20,12 @@ use Rattle.synchronizer.specs.Picked.{Picked}
 use Rattle.synchronizer.specs.Parents.{lacks, missing_parents, delivered}
 use Rattle.synchronizer.specs.Payload.{pairs_of, unpaired, missing_payload}
 use Rattle.synchronizer.specs.Known.{learning}
-use Rattle.synchronizer.specs.Answers.{code_of, shaped_as, out_as, lookable, missing_of, parents_answer, ParentsAnswer, deliver_answer, payload_shape, payload_answer, PayloadAnswer, learnable, learn_answer, learnt_table, LearnAnswer}
-use Rattle.synchronizer.specs.declared.known.Learning.{Learning}
-use Rattle.synchronizer.specs.declared.known.Learning.TheVariants.{Known, New, Full}
-use Rattle.synchronizer.specs.declared.answers.Answer.{Answer}
-use Rattle.synchronizer.specs.declared.answers.Answer.TheVariants.{Done, BadCommittee, BadShape, NoRoom}
-
--- ---- the numbers
-module _ (a : Answer) where
-  pub code-done : (n : ℕ) → a ≡ Done n → 256 * n ≡ code_of a
-  unfolding code_of
-  code-done n e = rw e (omega arith)
-
-  pub code-committee : a ≡ BadCommittee → 10 ≡ code_of a
-  unfolding code_of
-  code-committee e = rw e
-
-  pub code_shape : a ≡ BadShape → 11 ≡ code_of a
-  unfolding code_of
-  code_shape e = rw e
-
-  pub code-room : a ≡ NoRoom → 12 ≡ code_of a
-  unfolding code_of
-  code-room e = rw e
+use Rattle.synchronizer.specs.Answers.{shaped_as, out_as, lookable, missing_of, parents_answer, ParentsAnswer, deliver_answer, payload_shape, payload_answer, PayloadAnswer, learnable, learn_answer, learnt_table, LearnAnswer}
+use Rattle.refusal.specs.Answers.{Answer}
+use Rattle.std.specs.Int.{from_bool}
+use Rattle.std.specs.Prelude.{Result, Ok, Err}
+use Rattle.refusal.specs.declared.Refusal.{Refusal}
+use Rattle.refusal.specs.declared.Refusal.TheVariants.{BadCommittee, BadShape}
 
 -- a test of a header that said yes
 pub header-yes : (h : List ℕ) (b : Bool) → b ≡ header_shape h → not b ≡ false → header_shape h ≡ true
@@ -74,7 +56,7 @@ first-no a x e = rw e
 
 -- ---- parents
 module _ (ms g k h out : List ℕ) (b : Bool) (e : b ≡ valid_members ms) where
-  pub parents-committee : not b ≡ true → ParentsAnswer ms g k h out BadCommittee out
+  pub parents-committee : not b ≡ true → ParentsAnswer ms g k h out (Err BadCommittee) out
   unfolding parents_answer out_as
   parents-committee q =
       let v : valid_members ms ≡ false = sym e ∙ not-true b q in
@@ -84,19 +66,19 @@ module _ (ms g k h out : List ℕ) (b : Bool) (e : b ≡ valid_members ms) where
     valid : valid_members ms ≡ true
     valid = sym e ∙ not-false b yes
 
-    pub parents-shape : lookable ms g k h ≡ false → ParentsAnswer ms g k h out BadShape out
+    pub parents-shape : lookable ms g k h ≡ false → ParentsAnswer ms g k h out (Err BadShape) out
     unfolding parents_answer out_as shaped_as
     parents-shape q = record { answer = sym (rw (valid, q, parents_answer)); buffer = sym (rw (valid, q, out_as)) }
 
-    pub parents-out : lookable ms g k h ≡ true → (length out ≡ 1024 → ⊥) → ParentsAnswer ms g k h out BadShape out
+    pub parents-out : lookable ms g k h ≡ true → (length out ≡ 1024 → ⊥) → ParentsAnswer ms g k h out (Err BadShape) out
     unfolding parents_answer out_as shaped_as
     parents-out q l = record { answer = sym (rw (valid, q, ne_eqb _ _ l, parents_answer)); buffer = sym (rw (valid, q, ne_eqb _ _ l, out_as)) }
 
-    pub parents-done : (m : ℕ) (out' : List ℕ) → lookable ms g k h ≡ true → length out ≡ 1024 → Picked (missing_parents (records_of g) (rows_of 68 k) (parents_of h)) out m out' → ParentsAnswer ms g k h out (Done m) out'
+    pub parents-done : (m : ℕ) (out' : List ℕ) → lookable ms g k h ≡ true → length out ≡ 1024 → Picked (missing_parents (records_of g) (rows_of 68 k) (parents_of h)) out m out' → ParentsAnswer ms g k h out (Ok m) out'
     unfolding parents_answer out_as shaped_as missing_of
     parents-done m out' q l p =
         record {
-          answer = ap Done p.count ∙ sym (rw (valid, q, eq-eqb _ _ l, parents_answer));
+          answer = ap Ok p.count ∙ sym (rw (valid, q, eq-eqb _ _ l, parents_answer));
           buffer = p.buffer ∙ sym (rw (valid, q, eq-eqb _ _ l, out_as));
         }
 
@@ -107,54 +89,53 @@ few-missing gs ks h out m out' s p =
 
 -- ---- delivery
 module _ (ms g k h : List ℕ) (b : Bool) (e : b ≡ valid_members ms) where
-  pub deliver-committee : not b ≡ true → BadCommittee ≡ deliver_answer ms g k h
+  pub deliver-committee : not b ≡ true → (Err BadCommittee) ≡ deliver_answer ms g k h
   unfolding deliver_answer
   deliver-committee q = sym (rw (sym e ∙ not-true b q, deliver_answer))
 
   module _ (yes : not b ≡ false) where
-    pub deliver-shape : lookable ms g k h ≡ false → BadShape ≡ deliver_answer ms g k h
+    pub deliver-shape : lookable ms g k h ≡ false → (Err BadShape) ≡ deliver_answer ms g k h
     unfolding deliver_answer shaped_as
     deliver-shape q = sym (rw (sym e ∙ not-false b yes, q, deliver_answer))
 
     module _ (look : lookable ms g k h ≡ true) (d : Bool) (ed : d ≡ delivered (records_of g) (rows_of 68 k) (parents_of h)) where
-      pub not-delivered : not d ≡ true → Done 0 ≡ deliver_answer ms g k h
+      pub is-delivered : (n : ℕ) → n ≡ from_bool d → Ok n ≡ deliver_answer ms g k h
       unfolding deliver_answer shaped_as
-      not-delivered q = sym (rw (sym e ∙ not-false b yes, look, sym ed ∙ not-true d q, deliver_answer))
-
-      pub is-delivered : not d ≡ false → Done 1 ≡ deliver_answer ms g k h
-      unfolding deliver_answer shaped_as
-      is-delivered q = sym (rw (sym e ∙ not-false b yes, look, sym ed ∙ not-false d q, deliver_answer))
+      is-delivered n q = rw q (go d refl) where
+        go : (x : Bool) → d ≡ x → ◌≡◌ {A = Answer} (Ok (from_bool x)) (deliver_answer ms g k h)
+        go true r = sym (rw (sym e ∙ not-false b yes, look, sym ed ∙ r, deliver_answer))
+        go false r = sym (rw (sym e ∙ not-false b yes, look, sym ed ∙ r, deliver_answer))
 
 -- ---- payload
 module _ (own pairs h out : List ℕ) where
-  refuses : payload_shape own pairs h out ≡ false → PayloadAnswer own pairs h out BadShape out
+  refuses : payload_shape own pairs h out ≡ false → PayloadAnswer own pairs h out (Err BadShape) out
   unfolding payload_answer out_as shaped_as
   refuses q = record { answer = sym (rw (q, payload_answer)); buffer = sym (rw (q, out_as)) }
 
-  pub payload-own : (length own ≡ 32 → ⊥) → PayloadAnswer own pairs h out BadShape out
+  pub payload-own : (length own ≡ 32 → ⊥) → PayloadAnswer own pairs h out (Err BadShape) out
   unfolding payload_shape
   payload-own l = refuses (rw (ne_eqb _ _ l))
 
   module _ (lo : length own ≡ 32) where
-    pub payload-pairs : (length pairs % 36 ≡ 0 → ⊥) → PayloadAnswer own pairs h out BadShape out
+    pub payload-pairs : (length pairs % 36 ≡ 0 → ⊥) → PayloadAnswer own pairs h out (Err BadShape) out
     unfolding payload_shape
     payload-pairs l = refuses (rw (eq-eqb _ _ lo, ne_eqb _ _ l))
 
     module _ (lp : length pairs % 36 ≡ 0) (b : Bool) (e : b ≡ header_shape h) where
-      pub payload-header : not b ≡ true → PayloadAnswer own pairs h out BadShape out
+      pub payload-header : not b ≡ true → PayloadAnswer own pairs h out (Err BadShape) out
       unfolding payload_shape
       payload-header q = refuses (rw (eq-eqb _ _ lo, eq-eqb _ _ lp, sym e ∙ not-true b q))
 
       module _ (yes : not b ≡ false) where
-        pub payload-out : (length out ≡ 2304 → ⊥) → PayloadAnswer own pairs h out BadShape out
+        pub payload-out : (length out ≡ 2304 → ⊥) → PayloadAnswer own pairs h out (Err BadShape) out
         unfolding payload_shape
         payload-out l = refuses (rw (eq-eqb _ _ lo, eq-eqb _ _ lp, sym e ∙ not-false b yes, ne_eqb _ _ l))
 
-        pub payload-done : (m : ℕ) (out' : List ℕ) → length out ≡ 2304 → Picked (missing_payload own (pairs_of pairs) h) out m out' → PayloadAnswer own pairs h out (Done m) out'
+        pub payload-done : (m : ℕ) (out' : List ℕ) → length out ≡ 2304 → Picked (missing_payload own (pairs_of pairs) h) out m out' → PayloadAnswer own pairs h out (Ok m) out'
         unfolding payload_shape payload_answer out_as shaped_as
         payload-done m out' l p =
             record {
-              answer = ap Done p.count ∙ sym (rw (eq-eqb _ _ lo, eq-eqb _ _ lp, sym e ∙ not-false b yes, eq-eqb _ _ l, payload_answer));
+              answer = ap Ok p.count ∙ sym (rw (eq-eqb _ _ lo, eq-eqb _ _ lp, sym e ∙ not-false b yes, eq-eqb _ _ l, payload_answer));
               buffer = p.buffer ∙ sym (rw (eq-eqb _ _ lo, eq-eqb _ _ lp, sym e ∙ not-false b yes, eq-eqb _ _ l, out_as));
             }
 
@@ -172,50 +153,50 @@ few-batches own pairs h out m out' s p = omega (arith, p.count, fewer-payload ow
 
 -- ---- the known table
 module _ (k new : List ℕ) where
-  unlearnt : learnable k new ≡ false → LearnAnswer k new BadShape k
+  unlearnt : learnable k new ≡ false → LearnAnswer k new (Err BadShape) k
   unfolding learn_answer learnt_table shaped_as
   unlearnt q = record { answer = sym (rw (q, learn_answer)); table = sym (rw (q, learnt_table)) }
 
   module _ (b : Bool) (e : b ≡ shaped 68 k) where
-    pub learn-table : not b ≡ true → LearnAnswer k new BadShape k
+    pub learn-table : not b ≡ true → LearnAnswer k new (Err BadShape) k
     unfolding learnable
     learn-table q = unlearnt (rw (sym e ∙ not-true b q))
 
     module _ (yes : not b ≡ false) where
-      pub learn-long : (length new ≡ 68 → ⊥) → LearnAnswer k new BadShape k
+      pub learn-long : (length new ≡ 68 → ⊥) → LearnAnswer k new (Err BadShape) k
       unfolding learnable
       learn-long l = unlearnt (rw (sym e ∙ not-false b yes, ne_eqb _ _ l))
 
       module _ (l : length new ≡ 68) (r : ℕ) (er : r ≡ word (part new 0 4)) where
-        pub learn-round : r ≡ 0 → LearnAnswer k new BadShape k
+        pub learn-round : r ≡ 0 → LearnAnswer k new (Err BadShape) k
         unfolding learnable record_round
         learn-round z = unlearnt (rw (sym e ∙ not-false b yes, eq-eqb _ _ l, eq-eqb (word (part new 0 4)) 0 (sym er ∙ z)))
 
-        module _ (z : r ≡ 0 → ⊥) (x : Learning) (ex : x ≡ learning k new) where
+        module _ (z : r ≡ 0 → ⊥) (x : Result Bool Refusal) (ex : x ≡ learning k new) where
           can : learnable k new ≡ true
           unfolding learnable record_round
           can = rw (sym e ∙ not-false b yes, eq-eqb _ _ l, ne_eqb (word (part new 0 4)) 0 (λ q. z (er ∙ q)))
 
-          pub learn-known : x ≡ Known → LearnAnswer k new (Done 0) k
+          pub learn-known : x ≡ Ok true → LearnAnswer k new (Ok 0) k
           unfolding learn_answer learnt_table shaped_as
           learn-known q =
               record { answer = sym (rw (can, sym ex ∙ q, learn_answer)); table = sym (rw (can, learnt_table, sym ex ∙ q, learnt_table)) }
 
-          pub learn-full : x ≡ Full → LearnAnswer k new NoRoom k
+          pub learn_refused : (r : Refusal) → x ≡ Err r → LearnAnswer k new (Err r) k
           unfolding learn_answer learnt_table shaped_as
-          learn-full q =
+          learn_refused r q =
               record { answer = sym (rw (can, sym ex ∙ q, learn_answer)); table = sym (rw (can, learnt_table, sym ex ∙ q, learnt_table)) }
 
-          pub learn-new : (k' : List ℕ) → x ≡ New → k' ≡ appended 68 k new → LearnAnswer k new (Done 1) k'
+          pub learn-new : (k' : List ℕ) → x ≡ Ok false → k' ≡ appended 68 k new → LearnAnswer k new (Ok 1) k'
           unfolding learn_answer learnt_table shaped_as
           learn-new k' q p =
               record { answer = sym (rw (can, sym ex ∙ q, learn_answer)); table = p ∙ sym (rw (can, learnt_table, sym ex ∙ q, learnt_table)) }
 
 -- a new record finds a place
-pub new-fits : (k new : List ℕ) (x : Learning) → x ≡ learning k new → x ≡ New → count_of k < places 68 k
+pub new-fits : (k new : List ℕ) (x : Result Bool Refusal) → x ≡ learning k new → x ≡ Ok false → count_of k < places 68 k
 unfolding learning
 new-fits k new x e q = go (first_of (has_part 36 (record_digest new)) (rows_of 68 k) 0) refl (ltb (count_of k) (places 68 k)) refl (sym e ∙ q) where
-  go : (f : Found) → first_of (has_part 36 (record_digest new)) (rows_of 68 k) 0 ≡ f → (b : Bool) → ltb (count_of k) (places 68 k) ≡ b → learning k new ≡ New → count_of k < places 68 k
-  go (At i) p b r h = let z : ◌≡◌ {A = ℕ} 0 1 = cc (rw (p, learning) at h) in absurd (omega arith)
-  go Nothing p true r h = ltb-true _ _ r
-  go Nothing p false r h = let z : ◌≡◌ {A = ℕ} 0 1 = cc (rw (r, learning) at (rw (p, learning) at h)) in absurd (omega arith)
+  go : (f : Option ℕ) → first_of (has_part 36 (record_digest new)) (rows_of 68 k) 0 ≡ f → (b : Bool) → ltb (count_of k) (places 68 k) ≡ b → learning k new ≡ Ok false → count_of k < places 68 k
+  go (Some i) p b r h = let z : ◌≡◌ {A = ℕ} 0 1 = cc (rw (p, learning) at h) in absurd (omega arith)
+  go None p true r h = ltb-true _ _ r
+  go None p false r h = let z : ◌≡◌ {A = ℕ} 0 1 = cc (rw (r, learning) at (rw (p, learning) at h)) in absurd (omega arith)

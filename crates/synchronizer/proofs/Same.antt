@@ -3,7 +3,7 @@ use mathlib.Core.Path.{◌≡◌, sym, ◌∙◌}
 use mathlib.Core.List.{List}
 use Prim.Native.Nat.{ℕ}
 use Rattle.synchronizer.specs.Answers.{ParentsAnswer, PayloadAnswer, deliver_answer, LearnAnswer}
-use Rattle.synchronizer.specs.declared.answers.Answer.{Answer}
+use Rattle.refusal.specs.Answers.{Answer}
 
 module _ (r s : Answer) (u v : List ℕ) where
   pub same-parents : (ms g k h out : List ℕ) → ParentsAnswer ms g k h out r u → ParentsAnswer ms g k h out s v → (r ≡ s) × (u ≡ v)

@@ -9,31 +9,14 @@ use Rattle.messages.specs.Header.{header_shape, parents_of}
 use Rattle.synchronizer.specs.Parents.{missing_parents, delivered}
 use Rattle.synchronizer.specs.Payload.{pairs_of, missing_payload}
 use Rattle.synchronizer.specs.Known.{learning}
-use Rattle.synchronizer.specs.declared.known.Learning.{Learning}
-use Rattle.synchronizer.specs.declared.known.Learning.TheVariants.{Known, New, Full}
-use Rattle.synchronizer.specs.declared.answers.Answer.{Answer}
-use Rattle.synchronizer.specs.declared.answers.Answer.TheVariants.{Done, BadCommittee, BadShape, NoRoom}
-
--- document 01's number of each answer, 0 where it is no refusal; and its value
-abbrev pub number_of : Answer → ℕ
-number_of (Done n) = 0
-number_of BadCommittee = 10
-number_of BadShape = 11
-number_of NoRoom = 12
-
-abbrev pub value_of : Answer → ℕ
-value_of (Done n) = n
-value_of BadCommittee = 0
-value_of BadShape = 0
-value_of NoRoom = 0
-
--- both as one number
-unfoldable pub code_of : Answer → ℕ
-code_of a = number_of a + 256 * value_of a
+use Rattle.refusal.specs.Answers.{Answer}
+use Rattle.std.specs.Prelude.{Result, Ok, Err}
+use Rattle.refusal.specs.declared.Refusal.{Refusal}
+use Rattle.refusal.specs.declared.Refusal.TheVariants.{BadCommittee, BadShape}
 
 -- 11 where a test fails, else what is answered
 unfoldable pub shaped_as : Bool → Answer → Answer
-shaped_as b a = elim b [ true ↦ a | false ↦ BadShape ]
+shaped_as b a = elim b [ true ↦ a | false ↦ Err BadShape ]
 
 -- what is picked stands in the buffer where the test says yes; else the buffer stays
 unfoldable pub out_as : Bool → List (List ℕ) → List ℕ → List ℕ
@@ -50,8 +33,8 @@ missing_of g k h = missing_parents (records_of g) (rows_of 68 k) (parents_of h)
 unfoldable pub parents_answer : List ℕ → List ℕ → List ℕ → List ℕ → List ℕ → Answer
 parents_answer ms g k h out =
     elim (valid_members ms) [
-      | true ↦ shaped_as (lookable ms g k h && eqb (length out) 1024) (Done (length (missing_of g k h)))
-      | false ↦ BadCommittee
+      | true ↦ shaped_as (lookable ms g k h && eqb (length out) 1024) (Ok (length (missing_of g k h)))
+      | false ↦ Err BadCommittee
     ]
 
 pub record ParentsAnswer (ms g k h out : List ℕ) (r : Answer) (out' : List ℕ) : Type 0 where
@@ -62,8 +45,8 @@ pub record ParentsAnswer (ms g k h out : List ℕ) (r : Answer) (out' : List ℕ
 unfoldable pub deliver_answer : List ℕ → List ℕ → List ℕ → List ℕ → Answer
 deliver_answer ms g k h =
     elim (valid_members ms) [
-      | true ↦ shaped_as (lookable ms g k h) (elim (delivered (records_of g) (rows_of 68 k) (parents_of h)) [ true ↦ Done 1 | false ↦ Done 0 ])
-      | false ↦ BadCommittee
+      | true ↦ shaped_as (lookable ms g k h) (elim (delivered (records_of g) (rows_of 68 k) (parents_of h)) [ true ↦ Ok 1 | false ↦ Ok 0 ])
+      | false ↦ Err BadCommittee
     ]
 
 -- ---- payload
@@ -71,7 +54,7 @@ unfoldable pub payload_shape : List ℕ → List ℕ → List ℕ → List ℕ �
 payload_shape own pairs h out = eqb (length own) 32 && eqb (length pairs % 36) 0 && header_shape h && eqb (length out) 2304
 
 unfoldable pub payload_answer : List ℕ → List ℕ → List ℕ → List ℕ → Answer
-payload_answer own pairs h out = shaped_as (payload_shape own pairs h out) (Done (length (missing_payload own (pairs_of pairs) h)))
+payload_answer own pairs h out = shaped_as (payload_shape own pairs h out) (Ok (length (missing_payload own (pairs_of pairs) h)))
 
 pub record PayloadAnswer (own pairs h out : List ℕ) (r : Answer) (out' : List ℕ) : Type 0 where
   pub answer : r ≡ payload_answer own pairs h out
@@ -81,10 +64,11 @@ pub record PayloadAnswer (own pairs h out : List ℕ) (r : Answer) (out' : List 
 unfoldable pub learnable : List ℕ → List ℕ → Bool
 learnable k new = shaped 68 k && eqb (length new) 68 && not (eqb (record_round new) 0)
 
-abbrev pub learnt : Learning → Answer
-learnt Known = Done 0
-learnt New = Done 1
-learnt Full = NoRoom
+-- 0 where the digest is known, 1 where it is not
+abbrev pub learnt : Result Bool Refusal → Answer
+learnt (Ok true) = Ok 0
+learnt (Ok false) = Ok 1
+learnt (Err e) = Err e
 
 unfoldable pub learn_answer : List ℕ → List ℕ → Answer
 learn_answer k new = shaped_as (learnable k new) (learnt (learning k new))
@@ -93,7 +77,7 @@ learn_answer k new = shaped_as (learnable k new) (learnt (learning k new))
 unfoldable pub learnt_table : List ℕ → List ℕ → List ℕ
 learnt_table k new =
     elim (learnable k new) [
-      | true ↦ elim (learning k new) [ Known ↦ k | New ↦ appended 68 k new | Full ↦ k ]
+      | true ↦ elim (learning k new) [ Ok known ↦ elim known [ true ↦ k | false ↦ appended 68 k new ] | Err e ↦ k ]
       | false ↦ k
     ]
 

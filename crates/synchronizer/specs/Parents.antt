@@ -1,11 +1,11 @@
 -- Parents: document 01, 'synchronizer'. A certificate is known by its record: genesis' records, and the rows of the known table. Assumes nothing.
 use Rattle.std.specs.Prelude.{Bool, not, List, [], ℕ, eqb, length, get_or}
 use Rattle.wire.specs.Items.{first_of, has_part, keeps, all_of}
-use Rattle.wire.specs.declared.Found.TheVariants.{At, Nothing}
+use Rattle.std.specs.Prelude.{Some, None}
 
 -- the first record with this digest, or what is given
 unfoldable pub record_in : List (List ℕ) → List ℕ → List ℕ → List ℕ
-record_in rs digest other = elim (first_of (has_part 36 digest) rs 0) [ At i ↦ get_or rs i [] | Nothing ↦ other ]
+record_in rs digest other = elim (first_of (has_part 36 digest) rs 0) [ Some i ↦ get_or rs i [] | None ↦ other ]
 
 -- a parent digest is looked up first in genesis, then in the known table; the answer is the record itself, or nothing
 unfoldable pub parent_of : List (List ℕ) → List (List ℕ) → List ℕ → List ℕ

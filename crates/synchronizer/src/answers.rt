@@ -1,28 +1,8 @@
 // What a host asks of a header's parents and payload, and of the known table. Every input is answered or refused.
 ghost use Rattle.std.specs.Prelude.{◌≡◌};
-ghost use Rattle.synchronizer.specs.Answers.{code_of, ParentsAnswer, PayloadAnswer, deliver_answer, LearnAnswer};
+ghost use Rattle.synchronizer.specs.Answers.{ParentsAnswer, PayloadAnswer, deliver_answer, LearnAnswer};
 
-use crate::known::Learning;
-
-#[derive(Drop)]
-pub enum Answer {
-    Done(u32),
-    BadCommittee,
-    BadShape,
-    NoRoom,
-}
-
-// The answer as one number: document 01's number, and 256 times the value.
-pub fn code(answer: Answer) -> u64
-    ensures { result ≡ code_of answer }
-{
-    match answer {
-        Answer::Done(n) => 256 * n as u64,
-        Answer::BadCommittee => 10,
-        Answer::BadShape => 11,
-        Answer::NoRoom => 12,
-    }
-}
+use refusal::Refusal;
 
 // The missing parents of a header, in parent order, at the front of out; how many there are.
 pub fn get_parents<'a>(
@@ -31,87 +11,92 @@ pub fn get_parents<'a>(
     known: &'a [u8],
     header: &[u8],
     out: &mut [u8],
-) -> Answer
+) -> Result<u32, Refusal>
     ensures { ParentsAnswer members.now genesis.now known.now header.now out.old result out.new }
 {
     if !config::committee::valid_members(members) {
-        return Answer::BadCommittee;
+        return Err(Refusal::BadCommittee);
     }
     if !genesis::valid_genesis(members, genesis) {
-        return Answer::BadShape;
+        return Err(Refusal::BadShape);
     }
     if !table::rows::shape(known, genesis::RECORD) {
-        return Answer::BadShape;
+        return Err(Refusal::BadShape);
     }
     if !messages::header::shape(header) {
-        return Answer::BadShape;
+        return Err(Refusal::BadShape);
     }
     if out.len() != 1024 {
-        return Answer::BadShape;
+        return Err(Refusal::BadShape);
     }
-    Answer::Done(crate::parents::missing_parents(genesis, known, header, out) as u32)
+    Ok(crate::parents::missing_parents(genesis, known, header, out) as u32)
 }
 
 // Whether all parents of a certificate's header are there: 1 or 0.
-pub fn deliver<'a>(members: &[u8], genesis: &'a [u8], known: &'a [u8], header: &[u8]) -> Answer
+pub fn deliver<'a>(
+    members: &[u8],
+    genesis: &'a [u8],
+    known: &'a [u8],
+    header: &[u8],
+) -> Result<u32, Refusal>
     ensures { result ≡ deliver_answer members.now genesis.now known.now header.now }
 {
     if !config::committee::valid_members(members) {
-        return Answer::BadCommittee;
+        return Err(Refusal::BadCommittee);
     }
     if !genesis::valid_genesis(members, genesis) {
-        return Answer::BadShape;
+        return Err(Refusal::BadShape);
     }
     if !table::rows::shape(known, genesis::RECORD) {
-        return Answer::BadShape;
+        return Err(Refusal::BadShape);
     }
     if !messages::header::shape(header) {
-        return Answer::BadShape;
+        return Err(Refusal::BadShape);
     }
-    if !crate::parents::deliver_certificate(genesis, known, header) {
-        return Answer::Done(0);
-    }
-    Answer::Done(1)
+    Ok(u32::from(crate::parents::deliver_certificate(genesis, known, header)))
 }
 
 // The missing pairs of a header's payload, in payload order, at the front of out; how many there are.
-pub fn missing_payload(own: &[u8], pairs: &[u8], header: &[u8], out: &mut [u8]) -> Answer
+pub fn missing_payload(
+    own: &[u8],
+    pairs: &[u8],
+    header: &[u8],
+    out: &mut [u8],
+) -> Result<u32, Refusal>
     ensures { PayloadAnswer own.now pairs.now header.now out.old result out.new }
 {
     if own.len() != 32 {
-        return Answer::BadShape;
+        return Err(Refusal::BadShape);
     }
     if pairs.len() % crate::payload::PAIR != 0 {
-        return Answer::BadShape;
+        return Err(Refusal::BadShape);
     }
     if !messages::header::shape(header) {
-        return Answer::BadShape;
+        return Err(Refusal::BadShape);
     }
     if out.len() != 2304 {
-        return Answer::BadShape;
+        return Err(Refusal::BadShape);
     }
-    Answer::Done(crate::payload::missing_payload(own, pairs, header, out) as u32)
+    Ok(crate::payload::missing_payload(own, pairs, header, out) as u32)
 }
 
 // A record more in the known table: 1, or 0 where its digest is known.
-pub fn learn(known: &mut [u8], new: &[u8]) -> Answer
+pub fn learn(known: &mut [u8], new: &[u8]) -> Result<u32, Refusal>
     ensures { LearnAnswer known.old new.now result known.new }
 {
     if !table::rows::shape(known, genesis::RECORD) {
-        return Answer::BadShape;
+        return Err(Refusal::BadShape);
     }
     if new.len() != genesis::RECORD {
-        return Answer::BadShape;
+        return Err(Refusal::BadShape);
     }
     if wire::numbers::read_u32(new, 0) == 0 {
-        return Answer::BadShape;
+        return Err(Refusal::BadShape);
     }
-    match crate::known::known_as(known, new) {
-        Learning::Known => Answer::Done(0),
-        Learning::Full => Answer::NoRoom,
-        Learning::New => {
-            table::write::append(known, genesis::RECORD, new);
-            Answer::Done(1)
-        }
+    let is_known = crate::known::known_as(known, new)?;
+    if is_known {
+        return Ok(0);
     }
+    table::write::append(known, genesis::RECORD, new);
+    Ok(1)
 }

@@ -7,7 +7,7 @@ ghost use Rattle.synchronizer.specs.Picked.{Picked};
 ghost use Rattle.synchronizer.specs.Parents.{parent_of, lacks, missing_parents, delivered};
 
 use genesis::RECORD;
-use wire::Found;
+use messages::header::PARENTS;
 
 // The record with the digest, as part of whichever slice holds it; empty where neither does.
 pub fn parent<'a>(genesis: &'a [u8], known: &'a [u8], digest: &[u8]) -> &'a [u8]
@@ -16,10 +16,10 @@ pub fn parent<'a>(genesis: &'a [u8], known: &'a [u8], digest: &[u8]) -> &'a [u8]
     ensures { result.now ≡ parent_of (records_of genesis.now) (rows_of 68 known.now) digest.now }
 {
     let n = genesis.len() / RECORD;
-    if let Found::At(i) = wire::items::find(genesis, RECORD, 0, n, 36, digest) {
+    if let Some(i) = wire::items::find(genesis, RECORD, 0, n, 36, digest) {
         return wire::items::item(genesis, RECORD, 0, i);
     }
-    if let Found::At(i) = table::find::find_part(known, RECORD, 36, digest) {
+    if let Some(i) = table::find::find_part(known, RECORD, 36, digest) {
         return table::rows::row(known, RECORD, i);
     }
     &known[0..0]
@@ -48,12 +48,10 @@ pub fn missing_parents<'a>(
 {
     let n = messages::header::parent_count(header);
     let mut m: usize = 0;
-    let mut i: usize = 0;
-    while i < n {
+    for i in 0..n {
         let digest = messages::header::parent(header, i);
         let missing = is_missing(genesis, known, digest);
         m = crate::picks::put_if(out, 32, m, digest, missing);
-        i += 1;
     }
     m
 }
@@ -65,12 +63,5 @@ pub fn deliver_certificate<'a>(genesis: &'a [u8], known: &'a [u8], header: &[u8]
     ensures { result ≡ delivered (records_of genesis.now) (rows_of 68 known.now) (parents_of header.now) }
 {
     let n = messages::header::parent_count(header);
-    let mut i: usize = 0;
-    while i < n {
-        if is_missing(genesis, known, messages::header::parent(header, i)) {
-            return false;
-        }
-        i += 1;
-    }
-    true
+    wire::items::items(header, 32, PARENTS, n).all(|digest| !is_missing(genesis, known, digest))
 }

@@ -5,8 +5,6 @@ ghost use Rattle.messages.specs.Header.{header_shape, payload_of};
 ghost use Rattle.synchronizer.specs.Picked.{Picked};
 ghost use Rattle.synchronizer.specs.Payload.{pairs_of, unpaired, missing_payload};
 
-use wire::Found;
-
 pub const PAIR: usize = 36;
 
 // Whether a payload item is no pair of the own workers.
@@ -15,7 +13,7 @@ fn is_unpaired(pairs: &[u8], item: &[u8]) -> bool
     ensures { result ≡ unpaired (pairs_of pairs.now) item.now }
 {
     let n = pairs.len() / PAIR;
-    if let Found::At(_) = wire::items::find(pairs, PAIR, 0, n, 0, item) {
+    if let Some(_) = wire::items::find(pairs, PAIR, 0, n, 0, item) {
         return false;
     }
     true
@@ -29,12 +27,10 @@ fn missing_of(pairs: &[u8], header: &[u8], out: &mut [u8]) -> usize
 {
     let n = messages::header::payload_count(header);
     let mut m: usize = 0;
-    let mut i: usize = 0;
-    while i < n {
+    for i in 0..n {
         let item = messages::header::payload(header, i);
         let missing = is_unpaired(pairs, item);
         m = crate::picks::put_if(out, PAIR, m, item, missing);
-        i += 1;
     }
     m
 }

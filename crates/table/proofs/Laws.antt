@@ -12,8 +12,11 @@ use lib.Seq.{take_at, drop_at, length-take-le, drop-drop, set_split, split_at}
 use borrow.Author.Tests.{eq-eqb, ne_eqb, eqb-true, eqb-false, not-false, le-ltb, lt-ltb, ltb-true, ltb-false, leb-true, le-leb}
 use Rattle.wire.specs.Bytes.{part, splice, word, bytes}
 use Rattle.wire.specs.Items.{items, item_in, first_of, has_part, flat}
-use Rattle.wire.specs.declared.Found.{Found}
-use Rattle.wire.specs.declared.Found.TheVariants.{At}
+use Rattle.std.specs.Prelude.{Option, Some}
+use Rattle.std.specs.Slice.Iter.{chunks_exact_rest, chunks_exact_size, chunks_exact_steps}
+use Rattle.std.specs.declared.slice.ChunksExact.{ChunksExact}
+use Rattle.std.proofs.lemmas.Iterator.{YieldsList}
+use Rattle.wire.proofs.Chains.{yields-items}
 use Rattle.wire.proofs.Laws.{true-or-false, true-not-false, length-bytes, word_bytes, length-splice}
 use Rattle.wire.proofs.Lists.{Sized, none, one, sized-at, sized-append, sized_set, sized-take, length-flat, flat_append, flat-one, chunks-flat, flat-chunks, next-mul, below-mul, splice-seam, part-seam, length-chunks, chunks-sized, found_below}
 use Rattle.table.specs.Rows.{count_of, places, shaped, rows_of, past_of, packed, appended, with_row, round_of, has_round_part}
@@ -346,11 +349,11 @@ unfolding rows_of
 rows_are size t n e = rw e
 
 -- what a search of the items found, as a search of the rows
-pub rows-first : (size : ℕ) (test : List ℕ → Bool) (t : List ℕ) (n : ℕ) (f : Found) → n ≡ count_of t → f ≡ first_of test (items size t 8 n) 0 → f ≡ first_of test (rows_of size t) 0
+pub rows-first : (size : ℕ) (test : List ℕ → Bool) (t : List ℕ) (n : ℕ) (f : Option ℕ) → n ≡ count_of t → f ≡ first_of test (items size t 8 n) 0 → f ≡ first_of test (rows_of size t) 0
 rows-first size test t n f e g = g ∙ rw (rows_are size t n e)
 
 -- what was found is a row of the table: for `row` after a find. f is what the find answered
-module _ (size : ℕ) (test : List ℕ → Bool) (t : List ℕ) (f : Found) (i : ℕ) (h : shaped size t ≡ true) (e : f ≡ first_of test (rows_of size t) 0) (g : f ≡ At i) where
+module _ (size : ℕ) (test : List ℕ → Bool) (t : List ℕ) (f : Option ℕ) (i : ℕ) (h : shaped size t ≡ true) (e : f ≡ first_of test (rows_of size t) 0) (g : f ≡ Some i) where
   pub row_below : i < count_of t
   unfolding rows_of
   row_below = found_below size test t 8 (count_of t) f i e g
@@ -373,3 +376,8 @@ module _ (round at : ℕ) (what row : List ℕ) (n : ℕ) (e : n ≡ word (part 
   pub this-round : (b : Bool) → n ≡ round → b ≡ has_part at what row → b ≡ has_round_part round at what row
   unfolding has_round_part round_of
   this-round b h g = g ∙ sym (rw (eq-eqb (word (part row 0 4)) round (sym e ∙ h), has_round_part))
+
+-- a chain over the rows in use
+pub yields-rows : (size : ℕ) (t : List ℕ) {s : ChunksExact ℕ} → shaped size t ≡ true → chunks_exact_rest s ≡ take (8 + count_of t * size - 8) (drop 8 t) → chunks_exact_size s ≡ size → YieldsList chunks_exact_steps (λ x. x.now) s (rows_of size t)
+unfolding rows_of
+yields-rows size t h e f = yields-items size t 8 (count_of t) e f (is-big size t h) (rows_fit size t (count_of t) h refl)

@@ -3,10 +3,8 @@ ghost use Rattle.std.specs.Prelude.{◌≡◌, true, ◌+◌, ◌≤◌, length}
 ghost use Rattle.wire.specs.Items.{first_of, has_part};
 ghost use Rattle.table.specs.Rows.{shaped, rows_of, has_round_part};
 
-use wire::Found;
-
 // The first row in use that has what, from at.
-pub fn find_part(table: &[u8], size: usize, at: usize, what: &[u8]) -> Found
+pub fn find_part(table: &[u8], size: usize, at: usize, what: &[u8]) -> Option<usize>
     requires table_value { shaped size table.now ≡ true }
     requires what_bound { at + length what.now ≤ size }
     ensures { result ≡ first_of (has_part at what.now) (rows_of size table.now) 0 }
@@ -28,19 +26,17 @@ pub fn row_round_has(row: &[u8], round: u32, at: usize, what: &[u8]) -> bool
 }
 
 // The first row in use that is of the round and has what, from at.
-pub fn find_round_part(table: &[u8], size: usize, round: u32, at: usize, what: &[u8]) -> Found
+pub fn find_round_part(
+    table: &[u8],
+    size: usize,
+    round: u32,
+    at: usize,
+    what: &[u8],
+) -> Option<usize>
     requires table_value { shaped size table.now ≡ true }
     requires le_size { 4 ≤ size }
     requires what_bound { at + length what.now ≤ size }
     ensures { result ≡ first_of (has_round_part round at what.now) (rows_of size table.now) 0 }
 {
-    let n = crate::rows::count(table);
-    let mut i: usize = 0;
-    while i < n {
-        if row_round_has(crate::rows::row(table, size, i), round, at, what) {
-            return Found::At(i);
-        }
-        i += 1;
-    }
-    Found::Nothing
+    crate::rows::rows(table, size).position(|row| row_round_has(row, round, at, what))
 }

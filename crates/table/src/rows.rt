@@ -1,7 +1,11 @@
 // What a table holds.
-ghost use Rattle.std.specs.Prelude.{◌≡◌, true, ◌+◌, ◌*◌, ◌≤◌, ltb, length};
+ghost use Rattle.std.specs.Prelude.{◌≡◌, true, ℕ, ◌+◌, ◌-◌, ◌*◌, ◌≤◌, ◌<◌, ltb, length, take, drop};
+ghost use Rattle.std.specs.Slice.Iter.{chunks_exact_rest, chunks_exact_size, chunks_exact_steps};
+ghost use Rattle.std.specs.Iterator.Runs.{EveryRun, IsChunksExactRun};
 ghost use Rattle.wire.specs.Items.{item_in};
 ghost use Rattle.table.specs.Rows.{count_of, places, shaped};
+
+use std::slice::ChunksExact;
 
 // Whether the bytes are a table of rows of this size: a place or more, no byte over, and a count that the places can hold.
 pub fn shape(table: &[u8], size: usize) -> bool
@@ -38,6 +42,16 @@ pub fn row<'a>(table: &'a [u8], size: usize, i: usize) -> &'a [u8]
     ensures { result.now ≡ item_in size table.now 8 i }
 {
     wire::items::item(table, size, 8, i)
+}
+
+// The rows in use, one by one.
+pub fn rows<'a>(table: &'a [u8], size: usize) -> ChunksExact<'a, u8>
+    requires { shaped size table.now ≡ true }
+    ensures rest { chunks_exact_rest result ≡ take (8 + count_of table.now * size - 8) (drop 8 table.now) }
+    ensures size { chunks_exact_size result ≡ size }
+    ensures runs { EveryRun (chunks_exact_steps {A = ℕ}) (λ p. 0 < chunks_exact_size p.from → IsChunksExactRun p (chunks_exact_size p.from) (chunks_exact_rest p.from)) }
+{
+    wire::items::items(table, size, 8, count(table))
 }
 
 // Whether there is a place for a row more.

@@ -31,12 +31,10 @@ pub fn clear(table: &mut [u8], n: usize, state: &[u8], depth: u64)
 {
     let top = held::state::highest(state);
     let k = table::rows::count(table);
-    let mut i: usize = 0;
     let mut m: usize = 0;
-    while i < k {
+    for i in 0..k {
         let keep = stays(table::rows::row(table, ROW, i), state, depth, top);
         m = sweep::move_row(table, ROW, i, m, keep);
-        i += 1;
     }
     sweep::finish(table, ROW, k, m);
 }

@@ -32,9 +32,7 @@ pub fn put_list(table: &[u8], n: usize, places: &[u8], m: usize, list: &mut [u8]
     requires m_in_bounds_2 { (at + m) * 37 ≤ length list.old }
     ensures { list.new ≡ splice list.old (at * 37) (entries_of (map (cert_at (held_of table.now)) (take m (numbers_of places.now)))) }
 {
-    let mut i: usize = 0;
-    while i < m {
+    for i in 0..m {
         put_entry(table, n, room::get(places, i), list, at + i);
-        i += 1;
     }
 }

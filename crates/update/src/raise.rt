@@ -30,9 +30,7 @@ pub fn raise_all(state: &mut [u8], table: &[u8], n: usize, places: &[u8], m: usi
     requires below { Below (numbers_of places.now) m (count_of table.now) }
     ensures { lasts_of state.new ≡ raise_all (map (cert_at (held_of table.now)) (take m (numbers_of places.now))) (lasts_of state.old) }
 {
-    let mut i: usize = 0;
-    while i < m {
+    for i in 0..m {
         raise_one(state, table, n, room::get(places, i));
-        i += 1;
     }
 }

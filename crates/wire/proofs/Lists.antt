@@ -1,18 +1,16 @@
 -- The laws of `specs/Items.antt`: items of one size are a list, and loops over them. Assumes nothing.
 use mathlib.Core.Path.{◌≡◌, refl, sym, ap, ◌∙◌}
-use mathlib.Core.Bool.{Bool, true, false, not}
+use mathlib.Core.Bool.{Bool, true, false}
 use mathlib.Core.List.{List, [], ◌∷◌, ◌++◌, append_assoc, append-nil}
 use Prim.Native.Nat.{ℕ, zero, suc, ◌+◌, ◌-◌, ◌*◌, ◌≤◌, ◌<◌}
 use native.Mathlib.Numerals.{add-one}
-use native.Mathlib.Nat.{zero-mul, suc-mul, add-mul, add-zero, zero-add, sub-zero, mul-le-mul_right}
+use native.Mathlib.Nat.{zero-mul, suc-mul, add-mul, add-zero, sub-zero, mul-le-mul_right}
 use native.Mathlib.Omega.{arith}
-use lib.ListN.{length, get_or, set, take, drop, drop_of_length-le, length-take, length-drop, length-append, take-append-drop}
-use lib.Seq.{take_at, drop_at, take-append_seam, drop-append-add, drop-append_seam, length-take-le, drop-drop, drop-cons, take-suc}
-use borrow.Author.Tests.{not-true, not-false}
-use Rattle.wire.specs.Bytes.{part, splice, less}
-use Rattle.wire.specs.Items.{chunks, items, item_in, flat, keeps, first_of, sum_of, all_of, key_of, keys, ascends, ascends_from}
-use Rattle.wire.specs.declared.Found.{Found}
-use Rattle.wire.specs.declared.Found.TheVariants.{At, Nothing}
+use lib.ListN.{length, get_or, set, take, drop, length-take, length-drop, length-append, take-append-drop}
+use lib.Seq.{take_at, drop_at, take-append_seam, drop-append-add, drop-append_seam, length-take-le, drop-drop, take-suc}
+use Rattle.wire.specs.Bytes.{part, splice}
+use Rattle.wire.specs.Items.{chunks, items, item_in, flat, keeps, first_of, all_of, keys}
+use Rattle.std.specs.Prelude.{Option, Some, None}
 use Rattle.wire.proofs.Laws.{length_part, true-not-false}
 
 -- ---- products
@@ -148,239 +146,11 @@ module _ (size : ℕ) (xs : List ℕ) (at n : ℕ) (h : at + n * size ≤ length
   unfolding item_in
   item-length i l = length_part xs (at + i * size) size (item-fits i l)
 
--- ---- a search, a sum and a test of all, one at a time
-module _ (test : List ℕ → Bool) (rs : List (List ℕ)) (i i' : ℕ) (e : i' ≡ i + 1) (h : i < length rs) where
-  pub first-hit : test (get_or rs i []) ≡ true → first_of test (drop i rs) i ≡ At i
-  unfolding first_of
-  first-hit q = rw (drop-cons rs i [] h, q, first_of)
-
-  pub first-miss : test (get_or rs i []) ≡ false → first_of test (drop i rs) i ≡ first_of test (drop i' rs) i'
-  unfolding first_of
-  first-miss q = rw (e, add-one, drop-cons rs i [] h, q, first_of)
-
-  pub all-on : test (get_or rs i []) ≡ true → all_of test (drop i rs) ≡ all_of test (drop i' rs)
-  unfolding all_of
-  all-on q = rw (e, add-one, drop-cons rs i [] h, q, all_of)
-
-  pub all-stop : test (get_or rs i []) ≡ false → all_of test (drop i rs) ≡ false
-  unfolding all_of
-  all-stop q = rw (drop-cons rs i [] h, q, all_of)
-
-pub sum-on : (f : List ℕ → ℕ) (rs : List (List ℕ)) (i i' : ℕ) → i' ≡ i + 1 → i < length rs → sum_of f (drop i rs) ≡ f (get_or rs i []) + sum_of f (drop i' rs)
-unfolding sum_of
-sum-on f rs i i' e h = rw (drop-cons rs i [] h, e, add-one)
-
-pub sum-append : (f : List ℕ → ℕ) (xs ys : List (List ℕ)) → sum_of f (xs ++ ys) ≡ sum_of f xs + sum_of f ys
-unfolding sum_of
-sum-append f [] ys = sym (zero-add _)
-sum-append f (x ∷ xs) ys = rw (sum-append f xs ys) (omega arith)
-
--- ---- THE LOOPS, as a caller writes them: turns of `item` and the caller's test or number. The premises are what the callees ensure
-
--- a search: nothing found yet, and what is left to look through
-pub record Seek (size : ℕ) (test : List ℕ → Bool) (xs : List ℕ) (at n i : ℕ) : Type 0 where
-  pub high : i ≤ n
-  pub fits : at + n * size ≤ length xs
-  pub left : first_of test (items size xs at n) 0 ≡ first_of test (drop i (items size xs at n)) i
-
-pub seek-start : (size : ℕ) (test : List ℕ → Bool) (xs : List ℕ) (at n : ℕ) → at + n * size ≤ length xs → Seek size test xs at n 0
-seek-start size test xs at n h = record { high = omega arith; fits = h; left = refl }
-
-module _ (size : ℕ) (test : List ℕ → Bool) (xs : List ℕ) (at n i : ℕ) (s : Seek size test xs at n i) where
-  pub seek-done : n ≤ i → Nothing ≡ first_of test (items size xs at n) 0
-  unfolding first_of
-  seek-done l = sym (s.left ∙ ap (λ (z : List (List ℕ)). first_of test z i) (drop_of_length-le (items size xs at n) {i = i} (omega (arith, length-items size xs at n))))
-
-  module _ (l : i < n) where
-    pub seek-fits : at + i * size + size ≤ length xs
-    seek-fits = item-fits size xs at n s.fits i l
-
-    pub seek-item : (r : List ℕ) → r ≡ item_in size xs at i → length r ≡ size
-    seek-item r e = ap length e ∙ item-length size xs at n s.fits i l
-
-    pub seek-reach : (r : List ℕ) (k : ℕ) → r ≡ item_in size xs at i → k ≤ size → k ≤ length r
-    seek-reach r k e f = omega (arith, seek-item r e)
-
-    here : (r : List ℕ) (b x : Bool) → r ≡ item_in size xs at i → b ≡ test r → b ≡ x → test (get_or (items size xs at n) i []) ≡ x
-    here r b x e f g = sym (f ∙ ap test (e ∙ item-is size xs at n s.fits i l)) ∙ g
-
-    pub seek_hit : (r : List ℕ) (b : Bool) → r ≡ item_in size xs at i → b ≡ test r → b ≡ true → At i ≡ first_of test (items size xs at n) 0
-    seek_hit r b e f g = sym (s.left ∙ first-hit test (items size xs at n) i (i + 1) refl (omega (arith, length-items size xs at n)) (here r b true e f g))
-
-    pub seek-miss : (r : List ℕ) (b : Bool) → r ≡ item_in size xs at i → b ≡ test r → b ≡ false → Seek size test xs at n (i + 1)
-    seek-miss r b e f g =
-        record {
-          high = omega arith;
-          fits = s.fits;
-          left = s.left ∙ first-miss test (items size xs at n) i (i + 1) refl (omega (arith, length-items size xs at n)) (here r b false e f g);
-        }
-
--- a test of all: none failed yet, and what is left to test
-pub record Testing (size : ℕ) (test : List ℕ → Bool) (xs : List ℕ) (at n i : ℕ) : Type 0 where
-  pub high : i ≤ n
-  pub fits : at + n * size ≤ length xs
-  pub left : all_of test (items size xs at n) ≡ all_of test (drop i (items size xs at n))
-
-pub testing-start : (size : ℕ) (test : List ℕ → Bool) (xs : List ℕ) (at n : ℕ) → at + n * size ≤ length xs → Testing size test xs at n 0
-testing-start size test xs at n h = record { high = omega arith; fits = h; left = refl }
-
-module _ (size : ℕ) (test : List ℕ → Bool) (xs : List ℕ) (at n i : ℕ) (s : Testing size test xs at n i) where
-  pub testing-done : n ≤ i → true ≡ all_of test (items size xs at n)
-  unfolding all_of
-  testing-done l = sym (s.left ∙ ap (λ (z : List (List ℕ)). all_of test z) (drop_of_length-le (items size xs at n) {i = i} (omega (arith, length-items size xs at n))))
-
-  module _ (l : i < n) where
-    pub testing-fits : at + i * size + size ≤ length xs
-    testing-fits = item-fits size xs at n s.fits i l
-
-    pub testing-item : (r : List ℕ) → r ≡ item_in size xs at i → length r ≡ size
-    testing-item r e = ap length e ∙ item-length size xs at n s.fits i l
-
-    pub testing-reach : (r : List ℕ) (k : ℕ) → r ≡ item_in size xs at i → k ≤ size → k ≤ length r
-    testing-reach r k e f = omega (arith, testing-item r e)
-
-    tested : (r : List ℕ) (b x : Bool) → r ≡ item_in size xs at i → b ≡ test r → b ≡ x → test (get_or (items size xs at n) i []) ≡ x
-    tested r b x e f g = sym (f ∙ ap test (e ∙ item-is size xs at n s.fits i l)) ∙ g
-
-    pub testing-no : (r : List ℕ) (b : Bool) → r ≡ item_in size xs at i → b ≡ test r → not b ≡ true → false ≡ all_of test (items size xs at n)
-    testing-no r b e f g =
-        sym (s.left ∙ all-stop test (items size xs at n) i (i + 1) refl (omega (arith, length-items size xs at n)) (tested r b false e f (not-true b g)))
-
-    pub testing-yes : (r : List ℕ) (b : Bool) → r ≡ item_in size xs at i → b ≡ test r → not b ≡ false → Testing size test xs at n (i + 1)
-    testing-yes r b e f g =
-        record {
-          high = omega arith;
-          fits = s.fits;
-          left = s.left ∙ all-on test (items size xs at n) i (i + 1) refl (omega (arith, length-items size xs at n)) (tested r b true e f (not-false b g));
-        }
-
--- a sum: what is gathered, and what is left to gather
-pub record Adding (size : ℕ) (f : List ℕ → ℕ) (xs : List ℕ) (at n i sum : ℕ) : Type 0 where
-  pub high : i ≤ n
-  pub fits : at + n * size ≤ length xs
-  pub left : sum_of f (items size xs at n) ≡ sum + sum_of f (drop i (items size xs at n))
-
-pub adding-start : (size : ℕ) (f : List ℕ → ℕ) (xs : List ℕ) (at n : ℕ) → at + n * size ≤ length xs → Adding size f xs at n 0 0
-adding-start size f xs at n h = record { high = omega arith; fits = h; left = sym (zero-add _) }
-
-module _ (size : ℕ) (f : List ℕ → ℕ) (xs : List ℕ) (at n i sum : ℕ) (s : Adding size f xs at n i sum) where
-  pub adding-done : n ≤ i → sum ≡ sum_of f (items size xs at n)
-  unfolding sum_of
-  adding-done l =
-      sym (s.left ∙ rw (drop_of_length-le (items size xs at n) {i = i} (omega (arith, length-items size xs at n))) (add-zero sum))
-
-  module _ (l : i < n) where
-    pub adding-fits : at + i * size + size ≤ length xs
-    adding-fits = item-fits size xs at n s.fits i l
-
-    pub adding-item : (r : List ℕ) → r ≡ item_in size xs at i → length r ≡ size
-    adding-item r e = ap length e ∙ item-length size xs at n s.fits i l
-
-    pub adding-reach : (r : List ℕ) (k : ℕ) → r ≡ item_in size xs at i → k ≤ size → k ≤ length r
-    adding-reach r k e g = omega (arith, adding-item r e)
-
-    pub adding-next : (r : List ℕ) (w : ℕ) → r ≡ item_in size xs at i → w ≡ f r → Adding size f xs at n (i + 1) (sum + w)
-    adding-next r w e g =
-        let q = sum-on f (items size xs at n) i (i + 1) refl (omega (arith, length-items size xs at n)) in
-        let p : w ≡ f (get_or (items size xs at n) i []) = g ∙ ap f (e ∙ item-is size xs at n s.fits i l) in
-        record { high = omega arith; fits = s.fits; left = omega (arith, s.left) }
-
--- ---- ascending keys
-keys-drop : (rs : List (List ℕ)) (i : ℕ) → keys (drop i rs) ≡ drop i (keys rs)
-unfolding keys
-keys-drop rs zero = refl
-keys-drop [] (suc i) = refl
-keys-drop (r ∷ rs) (suc i) = keys-drop rs i
-
-ascends-two : (a b : List ℕ) (ys : List (List ℕ)) → less a b ≡ true → ascends (a ∷ b ∷ ys) ≡ ascends (b ∷ ys)
-unfolding ascends ascends_from
-ascends-two a b ys h = rw (h, ascends_from)
-
-ascends-fall : (a b : List ℕ) (ys : List (List ℕ)) → less a b ≡ false → ascends (a ∷ b ∷ ys) ≡ false
-unfolding ascends ascends_from
-ascends-fall a b ys h = rw (h, ascends_from)
-
-ascends-one : (rs : List (List ℕ)) → length rs ≤ 1 → ascends rs ≡ true
-unfolding ascends ascends_from
-ascends-one [] h = refl
-ascends-one (a ∷ []) h = refl
-ascends-one (a ∷ b ∷ rs) h = absurd (omega arith)
-
+-- ---- keys
 pub length-keys : (rs : List (List ℕ)) → length (keys rs) ≡ length rs
 unfolding keys
 length-keys [] = refl
 length-keys (r ∷ rs) = ap suc (length-keys rs)
-
--- the state of the loop that tests: each up to i - 1 is before the next
-pub record Rising (size : ℕ) (xs : List ℕ) (at n i : ℕ) : Type 0 where
-  pub low : 1 ≤ i
-  pub fits : at + n * size ≤ length xs
-  pub left : ascends (keys (items size xs at n)) ≡ ascends (keys (drop (i - 1) (items size xs at n)))
-
-pub rising-start : (size : ℕ) (xs : List ℕ) (at n : ℕ) → at + n * size ≤ length xs → Rising size xs at n 1
-rising-start size xs at n h = record { low = omega arith; fits = h; left = refl }
-
-module _ (size : ℕ) (xs : List ℕ) (at n i : ℕ) (s : Rising size xs at n i) where
-  pub rising-done : n ≤ i → true ≡ ascends (keys (items size xs at n))
-  rising-done l =
-      sym
-      (s.left
-      ∙ ascends-one (keys (drop (i - 1) (items size xs at n)))
-      (omega (arith, length-keys (drop (i - 1) (items size xs at n)), length-drop (i - 1) (items size xs at n), length-items size xs at n, s.low)))
-
-  module _ (l : i < n) where
-    pub rising-fits : at + i * size + size ≤ length xs
-    rising-fits = item-fits size xs at n s.fits i l
-
-    pub rising-fits-before : at + (i - 1) * size + size ≤ length xs
-    rising-fits-before = item-fits size xs at n s.fits (i - 1) (omega arith)
-
-    pub rising-reach : (r : List ℕ) (k : ℕ) → r ≡ item_in size xs at i → k ≤ size → k ≤ length r
-    rising-reach r k e f = omega (arith, ap length e, item-length size xs at n s.fits i l)
-
-    pub rising-reach-before : (r : List ℕ) (k : ℕ) → r ≡ item_in size xs at (i - 1) → k ≤ size → k ≤ length r
-    rising-reach-before r k e f = omega (arith, ap length e, item-length size xs at n s.fits (i - 1) (omega arith))
-
-    pair : drop (i - 1) (items size xs at n) ≡ get_or (items size xs at n) (i - 1) [] ∷ get_or (items size xs at n) i [] ∷ drop (i + 1) (items size xs at n)
-    pair =
-        let m = length-items size xs at n in
-        let e : suc (i - 1) ≡ i = omega (arith, s.low) in
-        drop-cons (items size xs at n) (i - 1) [] (omega arith)
-        ∙ rw (e, drop-cons (items size xs at n) i [] (omega arith), add-one)
-
-    next : drop i (items size xs at n) ≡ get_or (items size xs at n) i [] ∷ drop (i + 1) (items size xs at n)
-    next = let m = length-items size xs at n in rw (drop-cons (items size xs at n) i [] (omega arith), add-one)
-
-    module _ (p q : List ℕ) (b : Bool) (ep : p ≡ item_in size xs at (i - 1)) (eq : q ≡ item_in size xs at i) (eb : b ≡ less (part p 0 32) (part q 0 32)) where
-      same_test : (x : Bool) → b ≡ x → less (key_of (get_or (items size xs at n) (i - 1) [])) (key_of (get_or (items size xs at n) i [])) ≡ x
-      unfolding key_of
-      same_test x g =
-          let u = ep ∙ item-is size xs at n s.fits (i - 1) (omega arith) in
-          let v = eq ∙ item-is size xs at n s.fits i l in
-          sym (eb ∙ rw (u, v)) ∙ g
-
-      pub rising-falls : not b ≡ true → false ≡ ascends (keys (items size xs at n))
-      unfolding keys
-      rising-falls g =
-          sym
-          (s.left
-          ∙ rw pair
-          (ascends-fall (key_of (get_or (items size xs at n) (i - 1) [])) (key_of (get_or (items size xs at n) i [])) (keys (drop (i + 1) (items size xs at n))) (same_test false (not-true b g))))
-
-      pub rising-next : not b ≡ false → Rising size xs at n (i + 1)
-      unfolding keys
-      rising-next g =
-          let e : i + 1 - 1 ≡ i = omega arith in
-          record {
-            low = omega arith;
-            fits = s.fits;
-            left =
-                s.left
-                ∙ ap (λ (z : List (List ℕ)). ascends (keys z)) pair
-                ∙ ascends-two (key_of (get_or (items size xs at n) (i - 1) [])) (key_of (get_or (items size xs at n) i [])) (keys (drop (i + 1) (items size xs at n))) (same_test true (not-false b g))
-                ∙ ap (λ (z : List (List ℕ)). ascends (keys z)) (sym next)
-                ∙ ap (λ (k : ℕ). ascends (keys (drop k (items size xs at n)))) (sym e);
-          }
 
 -- ---- what a search says
 pub record FoundFrom (test : List ℕ → Bool) (rs : List (List ℕ)) (j i : ℕ) : Type 0 where
@@ -394,11 +164,11 @@ none_before : (test : List ℕ → Bool) (r : List ℕ) (rs : List (List ℕ)) (
 none_before test r rs k e f zero h = e
 none_before test r rs k e f (suc l) h = f l (omega arith)
 
-pub first_found : (test : List ℕ → Bool) (rs : List (List ℕ)) (j i : ℕ) → first_of test rs j ≡ At i → FoundFrom test rs j i
+pub first_found : (test : List ℕ → Bool) (rs : List (List ℕ)) (j i : ℕ) → first_of test rs j ≡ Some i → FoundFrom test rs j i
 unfolding first_of
 first_found test [] j i q = let z : ◌≡◌ {A = ℕ} 0 1 = cc in absurd (omega arith)
 first_found test (r ∷ rs) j i q = go (first_found test rs (suc j) i) (test r) refl q where
-  go : (first_of test rs (suc j) ≡ At i → FoundFrom test rs (suc j) i) → (b : Bool) → test r ≡ b → first_of test (r ∷ rs) j ≡ At i → FoundFrom test (r ∷ rs) j i
+  go : (first_of test rs (suc j) ≡ Some i → FoundFrom test rs (suc j) i) → (b : Bool) → test r ≡ b → first_of test (r ∷ rs) j ≡ Some i → FoundFrom test (r ∷ rs) j i
   go h true e q =
       let g : j ≡ i = cc (rw (e, first_of) at q) in
       record { k = 0; at = omega arith; within = omega arith; there = e; first = λ l m. absurd (omega arith) }
@@ -406,35 +176,35 @@ first_found test (r ∷ rs) j i q = go (first_found test rs (suc j) i) (test r) 
       let x = h (rw (e, first_of) at q) in
       record { k = suc x.k; at = omega (arith, x.at); within = omega (arith, x.within); there = x.there; first = none_before test r rs x.k e x.first }
 
-pub first-nothing : (test : List ℕ → Bool) (rs : List (List ℕ)) (j : ℕ) → first_of test rs j ≡ Nothing → (k : ℕ) → k < length rs → test (get_or rs k []) ≡ false
+pub first-nothing : (test : List ℕ → Bool) (rs : List (List ℕ)) (j : ℕ) → first_of test rs j ≡ None → (k : ℕ) → k < length rs → test (get_or rs k []) ≡ false
 unfolding first_of
 first-nothing test [] j q k l = absurd (omega arith)
 first-nothing test (r ∷ rs) j q k l = go (first-nothing test rs (suc j)) (test r) refl q k l where
-  go : (first_of test rs (suc j) ≡ Nothing → (k : ℕ) → k < length rs → test (get_or rs k []) ≡ false) → (b : Bool) → test r ≡ b → first_of test (r ∷ rs) j ≡ Nothing → (k : ℕ) → k < length (r ∷ rs) → test (get_or (r ∷ rs) k []) ≡ false
+  go : (first_of test rs (suc j) ≡ None → (k : ℕ) → k < length rs → test (get_or rs k []) ≡ false) → (b : Bool) → test r ≡ b → first_of test (r ∷ rs) j ≡ None → (k : ℕ) → k < length (r ∷ rs) → test (get_or (r ∷ rs) k []) ≡ false
   go h true e q k l = let z : ◌≡◌ {A = ℕ} 0 1 = cc (rw (e, first_of) at q) in absurd (omega arith)
   go h false e q k l = none_before test r rs (length rs) e (h (rw (e, first_of) at q)) k l
 
 -- after an append what was found is found, and what was not is looked for in the new ones
-pub first-append-old : (test : List ℕ → Bool) (rs ss : List (List ℕ)) (j i : ℕ) → first_of test rs j ≡ At i → first_of test (rs ++ ss) j ≡ At i
+pub first-append-old : (test : List ℕ → Bool) (rs ss : List (List ℕ)) (j i : ℕ) → first_of test rs j ≡ Some i → first_of test (rs ++ ss) j ≡ Some i
 unfolding first_of
 first-append-old test [] ss j i q = let z : ◌≡◌ {A = ℕ} 0 1 = cc in absurd (omega arith)
 first-append-old test (r ∷ rs) ss j i q = go (first-append-old test rs ss (suc j) i) (test r) refl q where
-  go : (first_of test rs (suc j) ≡ At i → first_of test (rs ++ ss) (suc j) ≡ At i) → (b : Bool) → test r ≡ b → first_of test (r ∷ rs) j ≡ At i → first_of test ((r ∷ rs) ++ ss) j ≡ At i
+  go : (first_of test rs (suc j) ≡ Some i → first_of test (rs ++ ss) (suc j) ≡ Some i) → (b : Bool) → test r ≡ b → first_of test (r ∷ rs) j ≡ Some i → first_of test ((r ∷ rs) ++ ss) j ≡ Some i
   go h true e q = rw (e, first_of) (rw (e, first_of) at q)
   go h false e q = rw (e, first_of) (h (rw (e, first_of) at q))
 
-pub first-append-new : (test : List ℕ → Bool) (rs ss : List (List ℕ)) (j : ℕ) → first_of test rs j ≡ Nothing → first_of test (rs ++ ss) j ≡ first_of test ss (j + length rs)
+pub first-append-new : (test : List ℕ → Bool) (rs ss : List (List ℕ)) (j : ℕ) → first_of test rs j ≡ None → first_of test (rs ++ ss) j ≡ first_of test ss (j + length rs)
 unfolding first_of
 first-append-new test [] ss j q = rw add-zero
 first-append-new test (r ∷ rs) ss j q = go (first-append-new test rs ss (suc j)) (test r) refl q where
-  go : (first_of test rs (suc j) ≡ Nothing → first_of test (rs ++ ss) (suc j) ≡ first_of test ss (suc j + length rs)) → (b : Bool) → test r ≡ b → first_of test (r ∷ rs) j ≡ Nothing → first_of test ((r ∷ rs) ++ ss) j ≡ first_of test ss (j + length (r ∷ rs))
+  go : (first_of test rs (suc j) ≡ None → first_of test (rs ++ ss) (suc j) ≡ first_of test ss (suc j + length rs)) → (b : Bool) → test r ≡ b → first_of test (r ∷ rs) j ≡ None → first_of test ((r ∷ rs) ++ ss) j ≡ first_of test ss (j + length (r ∷ rs))
   go h true e q = let z : ◌≡◌ {A = ℕ} 0 1 = cc (rw (e, first_of) at q) in absurd (omega arith)
   go h false e q =
       let n : j + suc (length rs) ≡ suc j + length rs = omega arith in
       rw (n, e, first_of) (h (rw (e, first_of) at q))
 
 -- what was found is one of the items: for `item` after a `find`. f is what the find answered
-module _ (size : ℕ) (test : List ℕ → Bool) (xs : List ℕ) (at n : ℕ) (f : Found) (i : ℕ) (e : f ≡ first_of test (items size xs at n) 0) (g : f ≡ At i) where
+module _ (size : ℕ) (test : List ℕ → Bool) (xs : List ℕ) (at n : ℕ) (f : Option ℕ) (i : ℕ) (e : f ≡ first_of test (items size xs at n) 0) (g : f ≡ Some i) where
   pub found_below : i < n
   found_below =
       let y = first_found test (items size xs at n) 0 i (sym e ∙ g) in

@@ -1,8 +1,7 @@
 -- Items of one size that stand one behind the other: a list. Assumes nothing.
 use Rattle.std.specs.Prelude.{ℕ, zero, suc, ◌+◌, ◌*◌, Bool, true, false, List, [], ◌∷◌, ◌++◌, length, take, drop}
 use Rattle.wire.specs.Bytes.{part, alike, less}
-use Rattle.wire.specs.declared.Found.{Found}
-use Rattle.wire.specs.declared.Found.TheVariants.{At, Nothing}
+use Rattle.std.specs.Prelude.{Option, Some, None}
 
 -- the first n pieces of xs that have the size
 unfoldable pub chunks : ℕ → List ℕ → ℕ → List (List ℕ)
@@ -27,9 +26,9 @@ unfoldable pub has_part : ℕ → List ℕ → List ℕ → Bool
 has_part off what item = alike (part item off (length what)) what
 
 -- the number of the first that a test takes, where the first of all has the number i
-unfoldable pub first_of : (List ℕ → Bool) → List (List ℕ) → ℕ → Found
-first_of test [] i = Nothing
-first_of test (r ∷ rs) i = elim (test r) [ true ↦ At i | false ↦ first_of test rs (suc i) ]
+unfoldable pub first_of : (List ℕ → Bool) → List (List ℕ) → ℕ → Option ℕ
+first_of test [] i = None
+first_of test (r ∷ rs) i = elim (test r) [ true ↦ Some i | false ↦ first_of test rs (suc i) ]
 
 -- a sum over all
 unfoldable pub sum_of : (List ℕ → ℕ) → List (List ℕ) → ℕ

@@ -8,14 +8,7 @@ pub fn same(a: &[u8], i: usize, b: &[u8], j: usize, n: usize) -> bool
     requires n_in_bounds_2 { j + n ≤ length b.now }
     ensures { result ≡ alike (part a.now i n) (part b.now j n) }
 {
-    let mut k: usize = 0;
-    while k < n {
-        if a[i + k] != b[j + k] {
-            return false;
-        }
-        k += 1;
-    }
-    true
+    a[i..i + n] == b[j..j + n]
 }
 
 // Whether the 32 bytes of a from i are those of b from j.
@@ -33,14 +26,5 @@ pub fn less32(a: &[u8], i: usize, b: &[u8], j: usize) -> bool
     requires j_in_bounds { j + 32 ≤ length b.now }
     ensures { result ≡ less (part a.now i 32) (part b.now j 32) }
 {
-    let mut k: usize = 0;
-    while k < 32 {
-        let x = a[i + k];
-        let y = b[j + k];
-        if x != y {
-            return x < y;
-        }
-        k += 1;
-    }
-    false // equal: neither comes first
+    a[i..i + 32] < b[j..j + 32]
 }

@@ -1,9 +1,11 @@
 // A list of items of one size that stand one behind the other in a slice: the members, genesis, the parents of a header, a table's rows.
-ghost use Rattle.std.specs.Prelude.{◌≡◌, ◌+◌, ◌*◌, ◌≤◌, length};
+ghost use Rattle.std.specs.Prelude.{◌≡◌, ℕ, ◌+◌, ◌-◌, ◌*◌, ◌≤◌, ◌<◌, length, take, drop};
+ghost use Rattle.std.specs.Slice.Iter.{chunks_exact_rest, chunks_exact_size, chunks_exact_steps};
+ghost use Rattle.std.specs.Iterator.Runs.{EveryRun, IsChunksExactRun};
 ghost use Rattle.wire.specs.Bytes.{part};
 ghost use Rattle.wire.specs.Items.{items, item_in, first_of, has_part, ascends, keys};
 
-use crate::Found;
+use std::slice::ChunksExact;
 
 // Item i of those from at, as a part of the slice.
 pub fn item<'a>(list: &'a [u8], size: usize, at: usize, i: usize) -> &'a [u8]
@@ -15,6 +17,17 @@ pub fn item<'a>(list: &'a [u8], size: usize, at: usize, i: usize) -> &'a [u8]
     &list[from..end]
 }
 
+// The n items from at, one by one.
+pub fn items<'a>(list: &'a [u8], size: usize, at: usize, n: usize) -> ChunksExact<'a, u8>
+    requires in_bounds { at + n * size ≤ length list.now }
+    requires le_size { 1 ≤ size }
+    ensures rest { chunks_exact_rest result ≡ take (at + n * size - at) (drop at list.now) }
+    ensures size { chunks_exact_size result ≡ size }
+    ensures runs { EveryRun (chunks_exact_steps {A = ℕ}) (λ p. 0 < chunks_exact_size p.from → IsChunksExactRun p (chunks_exact_size p.from) (chunks_exact_rest p.from)) }
+{
+    list[at..at + n * size].chunks_exact(size)
+}
+
 // Whether an item has what, from off.
 pub fn has(item: &[u8], off: usize, what: &[u8]) -> bool
     requires { off + length what.now ≤ length item.now }
@@ -24,20 +37,13 @@ pub fn has(item: &[u8], off: usize, what: &[u8]) -> bool
 }
 
 // The first of the n items from at that has what, from off.
-pub fn find(list: &[u8], size: usize, at: usize, n: usize, off: usize, what: &[u8]) -> Found
+pub fn find(list: &[u8], size: usize, at: usize, n: usize, off: usize, what: &[u8]) -> Option<usize>
     requires size_in_bounds { at + n * size ≤ length list.now }
     requires le_size { 1 ≤ size }
     requires what_bound { off + length what.now ≤ size }
     ensures { result ≡ first_of (has_part off what.now) (items size list.now at n) 0 }
 {
-    let mut i: usize = 0;
-    while i < n {
-        if has(item(list, size, at, i), off, what) {
-            return Found::At(i);
-        }
-        i += 1;
-    }
-    Found::Nothing
+    items(list, size, at, n).position(|x| has(x, off, what))
 }
 
 // Whether the first 32 bytes of the n items from at are strictly ascending.
@@ -46,12 +52,7 @@ pub fn ascending(list: &[u8], size: usize, at: usize, n: usize) -> bool
     requires le_size { 32 ≤ size }
     ensures { result ≡ ascends (keys (items size list.now at n)) }
 {
-    let mut i: usize = 1;
-    while i < n {
-        if !crate::bytes::less32(item(list, size, at, i - 1), 0, item(list, size, at, i), 0) {
-            return false;
-        }
-        i += 1;
-    }
-    true
+    items(list, size, at, n)
+        .zip(items(list, size, at, n).skip(1))
+        .all(|(x, y)| crate::bytes::less32(x, 0, y, 0))
 }

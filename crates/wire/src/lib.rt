@@ -5,10 +5,3 @@ pub mod bytes; // equality and order
 pub mod numbers; // little-endian numbers
 pub mod parts; // writing into a part of a slice
 pub mod items; // lists of items of one size
-
-// Where a search ends.
-#[derive(Drop)]
-pub enum Found {
-    At(usize),
-    Nothing,
-}

@@ -2,24 +2,12 @@
 ghost use Rattle.std.specs.Prelude.{◌≡◌, ◌+◌, ◌≤◌, length, replicate};
 ghost use Rattle.wire.specs.Bytes.{part, splice};
 
-// Copies all of src to the front of dst.
-fn copy_front(dst: &mut [u8], src: &[u8])
-    requires { length src.now ≤ length dst.old }
-    ensures { dst.new ≡ splice dst.old 0 src.now }
-{
-    let mut k: usize = 0;
-    while k < src.len() {
-        dst[k] = src[k];
-        k += 1;
-    }
-}
-
 // Copies all of src into dst from at.
 pub fn put_bytes(dst: &mut [u8], at: usize, src: &[u8])
     requires { at + length src.now ≤ length dst.old }
     ensures { dst.new ≡ splice dst.old at src.now }
 {
-    copy_front(&mut dst[at..], src);
+    dst[at..at + src.len()].copy_from_slice(src);
 }
 
 // Copies n bytes from a place to an earlier one.
@@ -28,11 +16,7 @@ pub fn copy_down(s: &mut [u8], from: usize, to: usize, n: usize)
     requires n_in_bounds { from + n ≤ length s.old }
     ensures { s.new ≡ splice s.old to (part s.old from n) }
 {
-    let mut k: usize = 0;
-    while k < n {
-        s[to + k] = s[from + k];
-        k += 1;
-    }
+    s.copy_within(from..from + n, to);
 }
 
 // Zeros in the n bytes from at.
@@ -40,9 +24,5 @@ pub fn clear_bytes(s: &mut [u8], at: usize, n: usize)
     requires { at + n ≤ length s.old }
     ensures { s.new ≡ splice s.old at (replicate n 0) }
 {
-    let mut k: usize = 0;
-    while k < n {
-        s[at + k] = 0;
-        k += 1;
-    }
+    s[at..at + n].fill(0);
 }

@@ -1,9 +1,5 @@
-use Prim.Native.Nat.{◌-◌}
 use Rattle.aggregators.proofs.Weights.{Weighing}
 use Rattle.aggregators.proofs.tally.count_keys.Given as goal
 
 abbrev pub invariant-loop-i : goal.invariant-loop-i
 invariant-loop-i l = Weighing l.members l.quorum l.size l.list l.at l.n l.i l.t
-
-abbrev pub decreases-loop-i : goal.decreases-loop-i
-decreases-loop-i l = l.n - l.i

@@ -6,11 +6,11 @@ use Rattle.checks.proofs.certificate.certificate_checks.Goals as goal
 pub header-requires : goal.header-requires
 header-requires c = search certificate-length
 
-pub header_checks-found-requires : goal.header_checks-found-requires
-header_checks-found-requires c = search (rules, certificate-headed-by)
+pub header_checks-requires-clause-header_value : goal.header_checks-requires-clause-header_value
+header_checks-requires-clause-header_value c = search (rules, certificate-headed-by)
 
-pub returns-in_default : goal.returns-in_default
-returns-in_default c = header_refused _ _ _ _ _ _ _ c.header.ensures c.header_checks-found.ensures c.in_default.not-Done
+pub returns-in_err-header_checks : goal.returns-in_err-header_checks
+returns-in_err-header_checks c = search (rules, header_refused)
 
 pub returns : goal.returns
-returns c = search header-passed
+returns c = search (rules, header-passed)

@@ -1,17 +1,15 @@
-use Rattle.checks.proofs.Votes.{votes-reused, votes-unknown, votes-few, votes-unsigned, votes-good}
+use Rattle.std.proofs.Common.{rules}
+use Rattle.checks.proofs.Votes.{votes_wrong, votes-few, votes-unsigned, votes-good}
 use Rattle.checks.proofs.certificate.votes_checks.Goals as goal
 
-pub returns-then-w-quorum_threshold : goal.returns-then-w-quorum_threshold
-returns-then-w-quorum_threshold c = search votes-few
+pub returns-in_err-weight : goal.returns-in_err-weight
+returns-in_err-weight c = search (rules, votes_wrong)
+
+pub returns-then-weight-quorum_threshold : goal.returns-then-weight-quorum_threshold
+returns-then-weight-quorum_threshold c = search (rules, votes-few)
 
 pub returns-then-not-batch_ok : goal.returns-then-not-batch_ok
-returns-then-not-batch_ok c = search votes-unsigned
+returns-then-not-batch_ok c = search (rules, votes-unsigned)
 
-pub returns-in-Reused : goal.returns-in-Reused
-returns-in-Reused c = search votes-reused
-
-pub returns-in-Unknown : goal.returns-in-Unknown
-returns-in-Unknown c = search votes-unknown
-
-pub returns-else-not-batch_ok : goal.returns-else-not-batch_ok
-returns-else-not-batch_ok c = search votes-good
+pub returns : goal.returns
+returns c = search (rules, votes-good)

@@ -1,19 +1,15 @@
-use Rattle.wire.proofs.Lists.{adding-start, adding-fits, adding-reach, adding-next, adding-done}
-use Rattle.config.proofs.Laws.{members-fit, total-is}
-use borrow.Author.Rules.{rules}
+use Rattle.std.proofs.Common.{rules, arith}
+use borrow.Author.Tests.{tests}
+use Rattle.std.proofs.lemmas.Iterator.Adapters.{fits_from_length, at_most_from_yields_List}
+use Rattle.wire.proofs.Chains.{sum-found, yields-all, yields-numbers}
+use Rattle.wire.proofs.Lists.{length-items}
+use Rattle.config.specs.Members.{members_of, stake_in}
+use Rattle.config.specs.Committee.{total}
 use Rattle.config.proofs.committee.total_stake.Goals as goal
 
-pub loop-i-init : goal.loop-i-init
-loop-i-init c = search (rules, adding-start, members-fit)
-
-pub item-requires : goal.item-requires
-item-requires c = search adding-fits
-
-pub stake_in-requires : goal.stake_in-requires
-stake_in-requires c = search (rules, adding-reach)
-
-pub loop-i-preserved : goal.loop-i-preserved
-loop-i-preserved c = search (rules, adding-next)
+pub sum-requires-clause-fits : goal.sum-requires-clause-fits
+sum-requires-clause-fits c = fits_from_length _ _ 32 _ (at_most_from_yields_List (yields-all 69 c.args.members.now (cc) (cc) (omega arith)) (rw length-items (omega arith))) c.map.ensures.closure (omega arith) (λ x r q k. search (rules, tests))
 
 pub returns : goal.returns
-returns c = search (total-is, adding-done)
+unfolding total members_of
+returns c = sum-found stake_in _ c.sum.ensures.ran (yields-numbers stake_in c.map.ensures.source c.map.ensures.closure (yields-all _ _ c.chunks_exact.ensures.rest c.chunks_exact.ensures.size (omega arith)) (λ x b q k. search (rules, tests)))

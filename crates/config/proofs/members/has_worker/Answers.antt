@@ -1,22 +1,15 @@
-use Rattle.wire.proofs.Lists.{seek-fits, seek-reach}
-use Rattle.config.proofs.Laws.{worker-start, worker-none, worker-found, worker-next}
-use borrow.Author.Rules.{rules}
+use Rattle.std.proofs.Common.{rules, arith}
+use borrow.Author.Tests.{tests}
+use lib.Dec.{eqb}
+use mathlib.Core.Path.{◌∙◌}
+use Rattle.wire.specs.Bytes.{part, word}
+use Rattle.wire.proofs.Chains.{any-found, yields-items}
+use Rattle.config.proofs.Laws.{has-worker-is}
 use Rattle.config.proofs.members.has_worker.Goals as goal
 
-pub loop-i-init : goal.loop-i-init
-loop-i-init c = search (rules, worker-start)
-
-pub item-requires : goal.item-requires
-item-requires c = search seek-fits
-
-pub read_u32-requires : goal.read_u32-requires
-read_u32-requires c = search (rules, seek-reach)
-
-pub returns-then-read_u32-id : goal.returns-then-read_u32-id
-returns-then-read_u32-id c = search worker-found
-
-pub loop-i-preserved : goal.loop-i-preserved
-loop-i-preserved c = search (rules, worker-next)
-
 pub returns : goal.returns
-returns c = search worker-none
+returns c =
+    let a = c.args in
+    let n = c.worker_count in
+    any-found (λ w. eqb (word (part w 0 4)) a.id) _ c.any.ensures.ran (yields-items 4 a.member.now 37 n.result c.items.ensures.rest c.items.ensures.size (omega arith) (omega arith)) (λ x b q k. search (rules, tests))
+    ∙ has-worker-is a.id a.member.now n.result (omega arith) (omega arith) n.ensures

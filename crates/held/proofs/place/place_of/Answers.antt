@@ -1,22 +1,17 @@
-use borrow.Author.Rules.{rules}
-use Rattle.held.proofs.Laws.{pairing-start, pairing-done, pairing-below, pairing-hit, pairing-miss}
+use mathlib.Core.Path.{refl}
+use Rattle.std.proofs.Common.{rules, arith}
+use borrow.Author.Tests.{tests}
+use Rattle.std.proofs.lemmas.Iterator.{YieldsList-from_range}
+use Rattle.std.proofs.lemmas.Iterator.Search.{position_from_yields_List}
+use Rattle.held.proofs.Laws.{of_pair_at, pair-is}
 use Rattle.table.proofs.Laws.{is-long}
 use Rattle.held.proofs.place.place_of.Goals as goal
 
 pub count-n-requires : goal.count-n-requires
 count-n-requires c = search is-long
 
-pub loop-i-init : goal.loop-i-init
-loop-i-init c = search pairing-start
-
-pub is_of-requires : goal.is_of-requires
-is_of-requires c = search (rules, pairing-below)
-
-pub returns-then-is_of : goal.returns-then-is_of
-returns-then-is_of c = search pairing-hit
-
-pub loop-i-preserved : goal.loop-i-preserved
-loop-i-preserved c = search pairing-miss
-
 pub returns : goal.returns
-returns c = search pairing-done
+returns c =
+    pair-is c.args.table.now c.args.origin c.args.round c.count-n.result _ c.position.result c.count-n.ensures
+    (position_from_yields_List (of_pair_at c.args.table.now c.args.origin c.args.round) _ _ _ c.position.ensures.ran (YieldsList-from_range 0 c.count-n.result c.count-n.result refl (omega arith)) (λ x b q k. search (rules, tests)))
+    c.unwrap_or.ensures

@@ -1,14 +1,7 @@
-use Rattle.held.proofs.Laws.{topping-start, topping-done, topping-fits, topping-next}
+use borrow.Author.Rules.{rules}
+use Rattle.std.proofs.iter.runs.Sources.{ranges}
+use Rattle.held.proofs.Laws.{highest-is}
 use Rattle.held.proofs.state.highest.Goals as goal
 
-pub loop-o-init : goal.loop-o-init
-loop-o-init c = search topping-start
-
-pub last_of-requires : goal.last_of-requires
-last_of-requires c = search topping-fits
-
-pub loop-o-preserved : goal.loop-o-preserved
-loop-o-preserved c = search topping-next
-
 pub returns : goal.returns
-returns c = search topping-done
+returns c = highest-is c.args.state.now c.max.result _ (search (rules, ranges)) (search (rules, ranges)) c.unwrap_or.ensures

@@ -1,22 +1,16 @@
-use borrow.Author.Rules.{rules}
-use Rattle.held.proofs.Laws.{clashing-start, clashing-done, clashing-below, clashing-hit, clashing-miss}
+use mathlib.Core.Path.{refl}
+use Rattle.std.proofs.Common.{rules, arith}
+use borrow.Author.Tests.{tests}
+use Rattle.std.proofs.lemmas.Iterator.{YieldsList-from_range}
+use Rattle.std.proofs.lemmas.Iterator.Search.{any_from_yields_List}
+use Rattle.held.proofs.Laws.{clashing_at, clash-is}
 use Rattle.table.proofs.Laws.{is-long}
 use Rattle.held.proofs.whole.clashes.Goals as goal
 
-pub count-n-requires : goal.count-n-requires
-count-n-requires c = search is-long
-
-pub loop-i-init : goal.loop-i-init
-loop-i-init c = search clashing-start
-
-pub clashes_at-requires : goal.clashes_at-requires
-clashes_at-requires c = search (rules, clashing-below)
-
-pub returns-then-clashes_at : goal.returns-then-clashes_at
-returns-then-clashes_at c = search clashing-hit
-
-pub loop-i-preserved : goal.loop-i-preserved
-loop-i-preserved c = search clashing-miss
+pub count-requires : goal.count-requires
+count-requires c = search is-long
 
 pub returns : goal.returns
-returns c = search clashing-done
+returns c =
+    clash-is c.args.table.now _ c.count.result c.any.result c.count.ensures
+    (any_from_yields_List (clashing_at c.args.table.now c.args.origin c.args.round c.args.digest.now) _ _ _ c.any.ensures.ran (YieldsList-from_range 0 c.count.result c.count.result refl (omega arith)) (λ x b q k. search (rules, tests)))

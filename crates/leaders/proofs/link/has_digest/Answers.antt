@@ -1,18 +1,13 @@
+use mathlib.Core.Path.{refl}
+use native.Mathlib.Omega.{arith}
+use lib.ListN.{length}
 use borrow.Author.Rules.{rules}
-use Rattle.leaders.proofs.Linking.{has-start, has-none, looking-below, has-hit, looking-miss}
+use Rattle.std.proofs.lemmas.Iterator.{YieldsList-from_range}
+use Rattle.std.proofs.lemmas.Iterator.Search.{any_from_yields_List}
+use Rattle.leaders.proofs.Linking.{has-any}
 use Rattle.leaders.proofs.link.has_digest.Goals as goal
 
-pub loop-i-init : goal.loop-i-init
-loop-i-init c = search has-start
-
-pub front_has-requires : goal.front_has-requires
-front_has-requires c = search (rules, looking-below)
-
-pub returns-then-front_has : goal.returns-then-front_has
-returns-then-front_has c = search has-hit
-
-pub loop-i-preserved : goal.loop-i-preserved
-loop-i-preserved c = search looking-miss
-
 pub returns : goal.returns
-returns c = search has-none
+returns c =
+    has-any _ _ _ _ _ c.requires.marks_len
+    (any_from_yields_List _ _ _ _ c.any.ensures.ran (YieldsList-from_range 0 (length c.args.marks.now) (length c.args.marks.now) refl (omega arith)) (λ x b q k. search rules))

@@ -1,11 +1,8 @@
-use Rattle.proposer.proofs.Beginning.{gathered-start, gathered-fits, gathered-item, gathered-room, gathered_next, gathered-done}
+use Rattle.proposer.proofs.Beginning.{gathered-start, gathered-item, gathered-room, gathered_next, gathered-done}
 use Rattle.proposer.proofs.start.put_genesis.Goals as goal
 
 pub loop-i-init : goal.loop-i-init
 loop-i-init c = search gathered-start
-
-pub item-requires : goal.item-requires
-item-requires c = search gathered-fits
 
 pub digest-one-requires : goal.digest-one-requires
 digest-one-requires c = search gathered-item

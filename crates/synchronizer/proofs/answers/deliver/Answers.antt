@@ -1,5 +1,5 @@
 use Rattle.table.proofs.Laws.{is-shaped}
-use Rattle.synchronizer.proofs.Replies.{header-yes, no-genesis, no_table, no_header, can-look, deliver-committee, deliver-shape, not-delivered, is-delivered}
+use Rattle.synchronizer.proofs.Replies.{header-yes, no-genesis, no_table, no_header, can-look, deliver-committee, deliver-shape, is-delivered}
 use Rattle.synchronizer.proofs.answers.deliver.Goals as goal
 
 pub returns-then-not-valid_members : goal.returns-then-not-valid_members
@@ -16,9 +16,6 @@ returns-then-not-shape-2 c = search (deliver-shape, no_header)
 
 pub deliver_certificate-requires : goal.deliver_certificate-requires
 deliver_certificate-requires c = record { known_value = is-shaped 68 _ _ c.shape.ensures c.if-not-shape.false-raw; header_value = header-yes _ _ c.shape-2.ensures c.if-not-shape-2.false-raw }
-
-pub returns-then-not-deliver_certificate : goal.returns-then-not-deliver_certificate
-returns-then-not-deliver_certificate c = search (not-delivered, can-look)
 
 pub returns : goal.returns
 returns c = search (is-delivered, can-look)

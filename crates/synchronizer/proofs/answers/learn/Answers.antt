@@ -1,5 +1,8 @@
+use mathlib.Core.Path.{ap, ◌∙◌}
+use Rattle.std.specs.Prelude.{Ok}
+use Rattle.std.proofs.lemmas.Result.{err_from_is_err_and}
 use Rattle.table.proofs.Laws.{is-shaped}
-use Rattle.synchronizer.proofs.Replies.{header-yes, learn-table, learn-long, learn-round, learn-known, learn-full, learn-new, new-fits}
+use Rattle.synchronizer.proofs.Replies.{header-yes, learn-table, learn-long, learn-round, learn-known, learn_refused, learn-new, new-fits}
 use native.Mathlib.Omega.{arith}
 use borrow.Author.Rules.{rules}
 use Rattle.synchronizer.proofs.answers.learn.Goals as goal
@@ -17,13 +20,17 @@ pub known_as-requires : goal.known_as-requires
 known_as-requires c = search (rules, header-yes, is-shaped)
 
 pub append-requires : goal.append-requires
-append-requires c = record { table_value = is-shaped 68 _ _ c.shape.ensures c.if-not-shape.false-raw; table_bound = new-fits _ _ _ c.known_as.ensures c.in-New.is; len = omega arith }
+append-requires c =
+    record { table_value = is-shaped 68 _ _ c.shape.ensures c.if-not-shape.false-raw; table_bound = new-fits _ _ _ c.known_as.ensures (c.in_ok-is_known.was ∙ ap Ok c.if-is_known.false); len = omega arith }
 
-pub returns-in-Known : goal.returns-in-Known
-returns-in-Known c = search learn-known
+pub returns-in_err-is_known : goal.returns-in_err-is_known
+returns-in_err-is_known c =
+    let p = err_from_is_err_and c.from_residual.result c.from_residual.ensures.1 in
+    let q = c.in_err-is_known.was in
+    rw (p.1, p.2) (search learn_refused)
 
-pub returns-in-Full : goal.returns-in-Full
-returns-in-Full c = search learn-full
+pub returns-then-is_known : goal.returns-then-is_known
+returns-then-is_known c = let q = c.in_ok-is_known.was ∙ ap Ok c.if-is_known.true in search learn-known
 
-pub returns-in-New : goal.returns-in-New
-returns-in-New c = search learn-new
+pub returns : goal.returns
+returns c = let q = c.in_ok-is_known.was ∙ ap Ok c.if-is_known.false in search learn-new

@@ -6,8 +6,8 @@ use Rattle.synchronizer.proofs.known.known_as.Goals as goal
 pub find_part-requires : goal.find_part-requires
 find_part-requires c = search (rules, digest-fits)
 
-pub returns-in-At : goal.returns-in-At
-returns-in-At c = search is_known
+pub returns-in-Some : goal.returns-in-Some
+returns-in-Some c = search is_known
 
 pub returns-then-not-room : goal.returns-then-not-room
 returns-then-not-room c = search no_place

@@ -1,5 +1,5 @@
 use Rattle.messages.proofs.Laws.{header-length}
-use Rattle.synchronizer.proofs.Picking.{picking-fits, picking-item, picking-room, picking-next}
+use Rattle.synchronizer.proofs.Picking.{picking-item, picking-room, picking-next}
 use Rattle.synchronizer.proofs.Laws.{missing-start, missing-done}
 use borrow.Author.Rules.{rules}
 use Rattle.synchronizer.proofs.parents.missing_parents.Goals as goal
@@ -9,9 +9,6 @@ parent_count-n-requires c = search header-length
 
 pub loop-i-init : goal.loop-i-init
 loop-i-init c = search (rules, missing-start)
-
-pub parent-digest-requires : goal.parent-digest-requires
-parent-digest-requires c = search picking-fits
 
 pub is_missing-missing-requires : goal.is_missing-missing-requires
 is_missing-missing-requires c = search (rules, picking-item)

@@ -1,4 +1,3 @@
-use Prim.Native.Nat.{◌-◌}
 use mathlib.Core.Path.{◌≡◌}
 use Rattle.table.specs.Rows.{rows_of}
 use Rattle.genesis.specs.Genesis.{records_of}
@@ -9,6 +8,3 @@ use Rattle.synchronizer.proofs.parents.missing_parents.Given as goal
 
 abbrev pub invariant-loop-i : goal.invariant-loop-i
 invariant-loop-i l = (l.n ≡ parent_count l.header) × Picking 32 (lacks (records_of l.genesis) (rows_of 68 l.known)) l.header 74 l.n l.initial.out l.out l.i l.m
-
-abbrev pub decreases-loop-i : goal.decreases-loop-i
-decreases-loop-i l = l.n - l.i

@@ -5,14 +5,14 @@ use Rattle.synchronizer.proofs.parents.parent.Goals as goal
 pub item-requires : goal.item-requires
 item-requires c = search genesis-fits
 
-pub returns-in-At : goal.returns-in-At
-returns-in-At c = search parent-genesis
+pub returns-in-Some : goal.returns-in-Some
+returns-in-Some c = search parent-genesis
 
 pub row-requires : goal.row-requires
 row-requires c = search found-row-fits
 
-pub returns-in-At-find_part : goal.returns-in-At-find_part
-returns-in-At-find_part c = search parent-known
+pub returns-in-Some-find_part : goal.returns-in-Some-find_part
+returns-in-Some-find_part c = search parent-known
 
 pub returns : goal.returns
 returns c = search parent-none

@@ -1,5 +1,5 @@
 use Rattle.messages.proofs.Laws.{header-length}
-use Rattle.synchronizer.proofs.Picking.{picking-fits, picking-item, picking-room, picking-next}
+use Rattle.synchronizer.proofs.Picking.{picking-item, picking-room, picking-next}
 use Rattle.synchronizer.proofs.Laws.{batches-start, batches-done}
 use borrow.Author.Rules.{rules}
 use Rattle.synchronizer.proofs.payload.missing_of.Goals as goal
@@ -9,9 +9,6 @@ payload_count-n-requires c = search header-length
 
 pub loop-i-init : goal.loop-i-init
 loop-i-init c = search (rules, batches-start)
-
-pub payload-item-requires : goal.payload-item-requires
-payload-item-requires c = search picking-fits
 
 pub is_unpaired-missing-requires : goal.is_unpaired-missing-requires
 is_unpaired-missing-requires c = search (rules, picking-item)

@@ -1,4 +1,3 @@
-use Prim.Native.Nat.{◌-◌}
 use mathlib.Core.Path.{◌≡◌}
 use Rattle.messages.specs.Header.{payload_count}
 use Rattle.synchronizer.specs.Payload.{pairs_of, unpaired}
@@ -7,6 +6,3 @@ use Rattle.synchronizer.proofs.payload.missing_of.Given as goal
 
 abbrev pub invariant-loop-i : goal.invariant-loop-i
 invariant-loop-i l = (l.n ≡ payload_count l.header) × Picking 36 (unpaired (pairs_of l.pairs)) l.header 1098 l.n l.initial.out l.out l.i l.m
-
-abbrev pub decreases-loop-i : goal.decreases-loop-i
-decreases-loop-i l = l.n - l.i

@@ -2,7 +2,7 @@ use borrow.Author.Rules.{rules}
 use Rattle.update.proofs.Laws.{clear-fits}
 use Rattle.held.proofs.Laws.{lawful-shape}
 use Rattle.table.proofs.Laws.{is-long}
-use Rattle.sweep.proofs.Laws.{sweeping-start, sweeping-fits, sweeping-row, sweeping-big, sweeping-next, sweeping-whole, sweeping-kept}
+use Rattle.sweep.proofs.Laws.{sweeping-start, sweeping-fits, sweeping-row, sweeping-next, sweeping-whole, sweeping-kept}
 use Rattle.update.proofs.clear.clear.Goals as goal
 
 pub count-k-requires : goal.count-k-requires
@@ -18,7 +18,7 @@ pub stays-keep-requires : goal.stays-keep-requires
 stays-keep-requires c = search (rules, sweeping-row, lawful-shape, clear-fits)
 
 pub move_row-m-requires : goal.move_row-m-requires
-move_row-m-requires c = search (rules, sweeping-fits, sweeping-big, lawful-shape)
+move_row-m-requires c = search (rules, sweeping-fits, lawful-shape)
 
 pub loop-i-preserved : goal.loop-i-preserved
 loop-i-preserved c = search (sweeping-next, lawful-shape)

@@ -1,9 +1,5 @@
 use Rattle.update.proofs.Laws.{Raising}
-use Prim.Native.Nat.{◌-◌}
 use Rattle.update.proofs.raise.raise_all.Given as goal
 
 abbrev pub invariant-loop-i : goal.invariant-loop-i
 invariant-loop-i l = Raising l.table l.places l.initial.state l.n l.m l.state l.i
-
-abbrev pub decreases-loop-i : goal.decreases-loop-i
-decreases-loop-i l = l.m - l.i

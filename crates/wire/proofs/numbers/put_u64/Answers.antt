@@ -1,33 +1,5 @@
-use native.Mathlib.Omega.{arith}
-use lib.ListN.{length-set}
-use Rattle.wire.specs.Bytes.{bytes}
-use Rattle.wire.proofs.Laws.{put8}
+use Rattle.wire.proofs.Std.{put8}
 use Rattle.wire.proofs.numbers.put_u64.Goals as goal
 
-pub bounds-s-at-2 : goal.bounds-s-at-2
-bounds-s-at-2 c = simp length-set (omega arith)
-
-pub bounds-s-at-3 : goal.bounds-s-at-3
-bounds-s-at-3 c = simp length-set (omega arith)
-
-pub bounds-s-at-4 : goal.bounds-s-at-4
-bounds-s-at-4 c = simp length-set (omega arith)
-
-pub bounds-s-at-5 : goal.bounds-s-at-5
-bounds-s-at-5 c = simp length-set (omega arith)
-
-pub bounds-s-at-6 : goal.bounds-s-at-6
-bounds-s-at-6 c = simp length-set (omega arith)
-
-pub bounds-s-at-7 : goal.bounds-s-at-7
-bounds-s-at-7 c = simp length-set (omega arith)
-
-pub bounds-s-at-8 : goal.bounds-s-at-8
-bounds-s-at-8 c = simp length-set (omega arith)
-
-pub shape_of-s : goal.shape_of-s
-shape_of-s c = simp length-set
-
 pub returns : goal.returns
-unfolding bytes
-returns c = put8 c.args.s.now c.args.at _ _ _ _ _ _ _ _ c.requires
+returns c = search put8

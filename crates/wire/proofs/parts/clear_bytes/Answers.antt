@@ -1,23 +1,5 @@
-use lib.Seq.{paste-zero}
-use lib.ListN.{replicate, length-replicate, length-set}
-use Rattle.wire.proofs.Laws.{paste-fill, paste_all}
-use Prim.Native.Nat.{◌+◌}
-use mathlib.Core.Path.{◌≡◌, refl, ◌∙◌}
-use native.Mathlib.Omega.{arith}
-use borrow.Author.Rules.{rules}
+use Rattle.wire.proofs.Std.{fill-part}
 use Rattle.wire.proofs.parts.clear_bytes.Goals as goal
 
-pub loop-k-init : goal.loop-k-init
-loop-k-init c = (search rules, (paste-zero c.args.s.now c.args.at (replicate c.args.n 0), refl))
-
-pub loop-k-preserved : goal.loop-k-preserved
-loop-k-preserved c = let k = c.loop-k.k in
-    let e = paste-fill c.args.s.now c.args.at c.args.n k (k + 1) refl c.requires (omega arith) in
-    (search rules, (rw c.loop-k.invariant.1.0 e, simp length-set c.loop-k.invariant.1.1))
-
-pub shape_of-s : goal.shape_of-s
-shape_of-s c = c.loop-k.invariant.1.1
-
 pub returns : goal.returns
-returns c = let e : c.loop-k.k ≡ c.args.n = omega arith in
-    c.loop-k.invariant.1.0 ∙ rw e (paste_all c.args.s.now c.args.at (replicate c.args.n 0) c.args.n (length-replicate c.args.n 0))
+returns c = search fill-part
