@@ -1,5 +1,5 @@
 -- Whether a certificate is refused, 14, 12, 13, or is held, and then opens a commit or not. Assumes nothing.
-use Rattle.std.specs.Prelude.{Bool, true, false, ◌||◌, ℕ, ltb, length, Result, Ok, Err}
+use Rattle.std.specs.Prelude.{Bool, true, false, ◌||◌, ℕ, ltb, length, Result, Err}
 use Rattle.refusal.specs.declared.Refusal.{Refusal}
 use Rattle.refusal.specs.declared.Refusal.TheVariants.{NoRoom, DigestClash}
 use Rattle.consensus.specs.Table.{Cert, State, clash, holds_pair}

@@ -1,12 +1,12 @@
 -- The laws of `specs/Certificates.antt` on a call: its shape, its place, and each way through it. Assumes nothing.
 use mathlib.Core.Path.{◌≡◌, refl, sym, ap, ◌∙◌}
-use mathlib.Core.Bool.{Bool, true, false, not}
+use mathlib.Core.Bool.{Bool, true, false, not, ◌&&◌}
 use mathlib.Core.List.{List, []}
 use Prim.Native.Nat.{ℕ, ◌≤◌, ◌<◌}
 use native.Mathlib.Omega.{arith}
 use lib.Dec.{eqb, ltb, leb}
 use lib.ListN.{length, get_or}
-use borrow.Author.Tests.{eq-eqb, ne_eqb, eqb-true, leb-true, leb-false, le-leb, lt-leb, ltb-true, not-true, not-false}
+use borrow.Author.Tests.{eq-eqb, ne_eqb, eqb-true, leb-true, leb-false, ltb-true, not-false}
 use Rattle.wire.specs.Bytes.{splice}
 use Rattle.wire.specs.Items.{item_in, first_of, flat}
 use Rattle.std.specs.Prelude.{Option, Some, None}
@@ -26,34 +26,47 @@ use Rattle.aggregators.proofs.Giving.{length-empty, count-empty}
 
 -- ---- the tests of shape, one after the other
 module _ (t : List ℕ) (round : ℕ) (origin digest out : List ℕ) where
-  module _ (b : Bool) (e : b ≡ are_counts t) where
-    pub shape-counts : not b ≡ true → false ≡ certificate_shape t round origin digest out
+  shape-counts : are_counts t ≡ false → certificate_shape t round origin digest out ≡ false
+  unfolding certificate_shape
+  shape-counts e = rw e
+
+  module _ (e : are_counts t ≡ true) where
+    shape-round : leb 1 round && leb round 4294967295 ≡ false → certificate_shape t round origin digest out ≡ false
     unfolding certificate_shape
-    shape-counts h = sym (rw (sym e ∙ not-true b h))
+    shape-round l = rw e (go (leb 1 round) (leb round 4294967295) l) where
+      go : (a b : Bool) → a && b ≡ false → true && a && b && eqb (length origin) 32 && eqb (length digest) 32 && eqb (length out) 1024 ≡ false
+      go true true f = cc
+      go true false f = refl
+      go false b f = refl
 
-    module _ (h : not b ≡ false) where
-      pub shape_low : round < 1 → false ≡ certificate_shape t round origin digest out
+    module _ (l : leb 1 round && leb round 4294967295 ≡ true) where
+      low : leb 1 round ≡ true
+      low = (both _ _ l).0
+
+      high : leb round 4294967295 ≡ true
+      high = (both _ _ l).1
+
+      shape-origin : (length origin ≡ 32 → ⊥) → certificate_shape t round origin digest out ≡ false
       unfolding certificate_shape
-      shape_low l = sym (rw (sym e ∙ not-false b h, lt-leb 1 round l))
+      shape-origin p = rw (e, low, high, ne_eqb (length origin) 32 p)
 
-      module _ (l : 1 ≤ round) where
-        pub shape-high : 4294967295 < round → false ≡ certificate_shape t round origin digest out
+      module _ (p : length origin ≡ 32) where
+        shape-digest : (length digest ≡ 32 → ⊥) → certificate_shape t round origin digest out ≡ false
         unfolding certificate_shape
-        shape-high m = sym (rw (sym e ∙ not-false b h, le-leb 1 round l, lt-leb round 4294967295 m))
+        shape-digest q = rw (e, low, high, eq-eqb (length origin) 32 p, ne_eqb (length digest) 32 q)
 
-        module _ (m : round ≤ 4294967295) where
-          pub shape-origin : (length origin ≡ 32 → ⊥) → false ≡ certificate_shape t round origin digest out
+        module _ (q : length digest ≡ 32) where
+          shape-out : (length out ≡ 1024 → ⊥) → certificate_shape t round origin digest out ≡ false
           unfolding certificate_shape
-          shape-origin p = sym (rw (sym e ∙ not-false b h, le-leb 1 round l, le-leb round 4294967295 m, ne_eqb (length origin) 32 p))
+          shape-out o = rw (e, low, high, eq-eqb (length origin) 32 p, eq-eqb (length digest) 32 q, ne_eqb (length out) 1024 o)
 
-          module _ (p : length origin ≡ 32) where
-            pub shape-digest : (length digest ≡ 32 → ⊥) → false ≡ certificate_shape t round origin digest out
-            unfolding certificate_shape
-            shape-digest q = sym (rw (sym e ∙ not-false b h, le-leb 1 round l, le-leb round 4294967295 m, eq-eqb (length origin) 32 p, ne_eqb (length digest) 32 q))
+          shape-right : length out ≡ 1024 → certificate_shape t round origin digest out ≡ true
+          unfolding certificate_shape
+          shape-right o = rw (e, low, high, eq-eqb (length origin) 32 p, eq-eqb (length digest) 32 q, eq-eqb (length out) 1024 o)
 
-            pub shape-out : length digest ≡ 32 → eqb (length out) 1024 ≡ certificate_shape t round origin digest out
-            unfolding certificate_shape
-            shape-out q = sym (rw (sym e ∙ not-false b h, le-leb 1 round l, le-leb round 4294967295 m, eq-eqb (length origin) 32 p, eq-eqb (length digest) 32 q))
+-- the round is one of 32 bits
+pub round-small : (round : ℕ) (b : Bool) → b ≡ (leb 1 round && leb round 4294967295) → b ≡ true → round ≤ 4294967295
+round-small round b e f = leb-true _ _ (both _ _ (sym e ∙ f)).1
 
 -- what the shape says
 pub record InShape (t : List ℕ) (round : ℕ) (origin digest out : List ℕ) : Type 0 where
@@ -167,42 +180,77 @@ module _ (round : ℕ) (r : List ℕ) (e : r ≡ empty_row round) where
         buffer = g.buffer ∙ ap (λ (x : List (List ℕ)). splice out 0 (flat x)) z;
       }
 
--- ---- the call, one law for each way through it
-module _ (ms t : List ℕ) (round : ℕ) (origin digest out : List ℕ) (b : Bool) (e : b ≡ valid_members ms) where
-  pub cert-committee : not b ≡ true → CountsCertificate ms t round origin digest out (Err BadCommittee) t out
+-- ---- the call, one law for each way through it: ms', t', origin' and digest' are what the tests give back of what they are passed
+module _ (ms t : List ℕ) (round : ℕ) (origin digest out : List ℕ) where
+  pub cert-committee : (r : Refusal) → r ≡ BadCommittee → valid_members ms ≡ false → CountsCertificate ms t round origin digest out (Err r) t out
   unfolding count_certificate stay
-  cert-committee h =
-      let z : count_certificate ms t round origin digest out ≡ stay (Err BadCommittee) t out = rw (sym e ∙ not-true b h, count_certificate) in
-      record { answer = rw z; counts = rw z; buffer = rw z }
+  cert-committee r e h =
+      let z : count_certificate ms t round origin digest out ≡ stay (Err BadCommittee) t out = rw (h, count_certificate) in
+      rw e (record { answer = rw z; counts = rw z; buffer = rw z })
 
-  module _ (h : not b ≡ false) (s : Bool) (f : s ≡ certificate_shape t round origin digest out) where
-    pub cert-shape : not s ≡ true → CountsCertificate ms t round origin digest out (Err BadShape) t out
+  module _ (ms' : List ℕ) (v : valid_members ms' ≡ true) (m : ms' ≡ ms) where
+    lawful : valid_members ms ≡ true
+    lawful = ap valid_members (sym m) ∙ v
+
+    misshapen : certificate_shape t round origin digest out ≡ false → CountsCertificate ms t round origin digest out (Err BadShape) t out
     unfolding count_certificate stay
-    cert-shape g =
-        let z : count_certificate ms t round origin digest out ≡ stay (Err BadShape) t out = rw (sym e ∙ not-false b h, count_certificate, sym f ∙ not-true s g, count_certificate) in
+    misshapen f =
+        let z : count_certificate ms t round origin digest out ≡ stay (Err BadShape) t out = rw (lawful, count_certificate, f, count_certificate) in
         record { answer = rw z; counts = rw z; buffer = rw z }
 
-    module _ (g : not s ≡ false) (p : Result Place Refusal) (k : p ≡ place_for t round origin) where
-      pub cert-counted : p ≡ Ok Counted → CountsCertificate ms t round origin digest out (Ok 0) t out
-      unfolding count_certificate stay
-      cert-counted q =
-          let z : count_certificate ms t round origin digest out ≡ stay (Ok 0) t out = rw (sym e ∙ not-false b h, count_certificate, sym f ∙ not-false s g, count_certificate, sym k ∙ q, count_certificate) in
-          record { answer = rw z; counts = rw z; buffer = rw z }
+    pub cert-table : (r : Refusal) → r ≡ BadShape → are_counts t ≡ false → CountsCertificate ms t round origin digest out (Err r) t out
+    cert-table r e f = rw e (misshapen (shape-counts t round origin digest out f))
 
-      pub cert_refused : (r : Refusal) → p ≡ Err r → CountsCertificate ms t round origin digest out (Err r) t out
-      unfolding count_certificate stay
-      cert_refused r q =
-          let z : count_certificate ms t round origin digest out ≡ stay (Err r) t out = rw (sym e ∙ not-false b h, count_certificate, sym f ∙ not-false s g, count_certificate, sym k ∙ q, count_certificate) in
-          record { answer = rw z; counts = rw z; buffer = rw z }
+    module _ (a : are_counts t ≡ true) where
+      module _ (n : Bool) (w : n ≡ (leb 1 round && leb round 4294967295)) where
+        pub cert-round : n ≡ false → CountsCertificate ms t round origin digest out (Err BadShape) t out
+        cert-round f = misshapen (shape-round t round origin digest out a (sym w ∙ f))
 
-      pub cert-row : (i n : ℕ) (u o : List ℕ) → p ≡ Ok (Row i) → CountsIn (given ms (get_or (rows_of 2053 t) i []) origin digest) (with_row 2053 t i (with_pair (get_or (rows_of 2053 t) i []) origin digest)) out n u o → CountsCertificate ms t round origin digest out (Ok n) u o
-      unfolding count_certificate grow
-      cert-row i n u o q x =
-          let z : count_certificate ms t round origin digest out ≡ grow (given ms (get_or (rows_of 2053 t) i []) origin digest) (with_row 2053 t i (with_pair (get_or (rows_of 2053 t) i []) origin digest)) out = rw (sym e ∙ not-false b h, count_certificate, sym f ∙ not-false s g, count_certificate, sym k ∙ q, count_certificate) in
-          record { answer = ap Ok x.many ∙ rw z; counts = x.counts ∙ rw z; buffer = x.buffer ∙ rw z }
+        module _ (y : n ≡ true) where
+          l : leb 1 round && leb round 4294967295 ≡ true
+          l = sym w ∙ y
 
-      pub cert-new : (n : ℕ) (u o : List ℕ) → p ≡ Ok New → CountsIn (given ms (empty_row round) origin digest) (appended 2053 t (with_pair (empty_row round) origin digest)) out n u o → CountsCertificate ms t round origin digest out (Ok n) u o
-      unfolding count_certificate grow
-      cert-new n u o q x =
-          let z : count_certificate ms t round origin digest out ≡ grow (given ms (empty_row round) origin digest) (appended 2053 t (with_pair (empty_row round) origin digest)) out = rw (sym e ∙ not-false b h, count_certificate, sym f ∙ not-false s g, count_certificate, sym k ∙ q, count_certificate) in
-          record { answer = ap Ok x.many ∙ rw z; counts = x.counts ∙ rw z; buffer = x.buffer ∙ rw z }
+          pub cert-origin : (r : Refusal) → r ≡ BadShape → (length origin ≡ 32 → ⊥) → CountsCertificate ms t round origin digest out (Err r) t out
+          cert-origin r e f = rw e (misshapen (shape-origin t round origin digest out a l f))
+
+          module _ (lo : length origin ≡ 32) where
+            pub cert-digest : (r : Refusal) → r ≡ BadShape → (length digest ≡ 32 → ⊥) → CountsCertificate ms t round origin digest out (Err r) t out
+            cert-digest r e f = rw e (misshapen (shape-digest t round origin digest out a l lo f))
+
+            module _ (ld : length digest ≡ 32) where
+              pub cert-out : (length out ≡ 1024 → ⊥) → CountsCertificate ms t round origin digest out (Err BadShape) t out
+              cert-out f = misshapen (shape-out t round origin digest out a l lo ld f)
+
+              module _ (b : length out ≡ 1024) (t' origin' : List ℕ) (e : t' ≡ t) (f : origin' ≡ origin) (p : Result Place Refusal) (k : p ≡ place_for t' round origin') where
+                right : certificate_shape t round origin digest out ≡ true
+                right = shape-right t round origin digest out a l lo ld b
+
+                place : p ≡ place_for t round origin
+                place = k ∙ rw (e, f)
+
+                pub cert-counted : p ≡ Ok Counted → CountsCertificate ms t round origin digest out (Ok 0) t out
+                unfolding count_certificate stay
+                cert-counted q =
+                    let z : count_certificate ms t round origin digest out ≡ stay (Ok 0) t out = rw (lawful, count_certificate, right, count_certificate, sym place ∙ q, count_certificate) in
+                    record { answer = rw z; counts = rw z; buffer = rw z }
+
+                pub cert_refused : (r : Refusal) → p ≡ Err r → CountsCertificate ms t round origin digest out (Err r) t out
+                unfolding count_certificate stay
+                cert_refused r q =
+                    let z : count_certificate ms t round origin digest out ≡ stay (Err r) t out = rw (lawful, count_certificate, right, count_certificate, sym place ∙ q, count_certificate) in
+                    record { answer = rw z; counts = rw z; buffer = rw z }
+
+                module _ (digest' : List ℕ) (g : digest' ≡ digest) (j : ℕ) (u o : List ℕ) where
+                  pub cert-row : (i : ℕ) → p ≡ Ok (Row i) → CountsIn (given ms' (get_or (rows_of 2053 t) i []) origin' digest') (with_row 2053 t i (with_pair (get_or (rows_of 2053 t) i []) origin' digest')) out j u o → CountsCertificate ms t round origin digest out (Ok j) u o
+                  unfolding count_certificate grow
+                  cert-row i q x =
+                      let z : count_certificate ms t round origin digest out ≡ grow (given ms (get_or (rows_of 2053 t) i []) origin digest) (with_row 2053 t i (with_pair (get_or (rows_of 2053 t) i []) origin digest)) out = rw (lawful, count_certificate, right, count_certificate, sym place ∙ q, count_certificate) in
+                      let s = rw (m, f, g) at x in
+                      record { answer = ap Ok s.many ∙ rw z; counts = s.counts ∙ rw z; buffer = s.buffer ∙ rw z }
+
+                  pub cert-new : p ≡ Ok New → CountsIn (given ms' (empty_row round) origin' digest') (appended 2053 t (with_pair (empty_row round) origin' digest')) out j u o → CountsCertificate ms t round origin digest out (Ok j) u o
+                  unfolding count_certificate grow
+                  cert-new q x =
+                      let z : count_certificate ms t round origin digest out ≡ grow (given ms (empty_row round) origin digest) (appended 2053 t (with_pair (empty_row round) origin digest)) out = rw (lawful, count_certificate, right, count_certificate, sym place ∙ q, count_certificate) in
+                      let s = rw (m, f, g) at x in
+                      record { answer = ap Ok s.many ∙ rw z; counts = s.counts ∙ rw z; buffer = s.buffer ∙ rw z }

@@ -1,7 +1,6 @@
 -- The laws of `specs/Weight.antt` and `specs/Tallies.antt`. Assumes nothing.
 use mathlib.Core.Path.{◌≡◌, refl, sym, ap, ◌∙◌}
 use mathlib.Core.Bool.{Bool, true, false}
-use mathlib.Core.Logic.{⊎_elim}
 use mathlib.Core.List.{List, [], ◌∷◌, ◌++◌, append-nil}
 use Prim.Native.Nat.{ℕ, suc, ◌+◌, ◌*◌, ◌≤◌, ◌<◌}
 use native.Mathlib.Numerals.{add-one}
@@ -9,14 +8,13 @@ use native.Mathlib.Omega.{arith}
 use lib.Dec.{leb}
 use lib.ListN.{length, get_or, drop, drop_of_length-le, length-append}
 use lib.Seq.{drop-cons, drop-append-le, append_snoc}
-use borrow.Author.Tests.{le-leb, lt-leb, leb-false}
+use borrow.Author.Tests.{le-leb, lt-leb}
 use Rattle.wire.specs.Items.{items, item_in, first_of, has_part, key_of, keys}
 use Rattle.std.specs.Prelude.{Option, Some, None}
-use Rattle.wire.proofs.Laws.{true-or-false, length_part, part-all}
+use Rattle.wire.proofs.Laws.{part-all}
 use Rattle.wire.proofs.Lists.{Sized, none, one, item-fits, item-is, item-length, length-items}
 use Rattle.config.specs.Members.{members_of}
-use Rattle.config.specs.Committee.{total, quorum, stake_of, valid_members}
-use Rattle.config.proofs.Laws.{valid-weight}
+use Rattle.config.specs.Committee.{total, quorum, stake_of}
 use Rattle.aggregators.specs.Weight.{quorum_in, stake_by, is_in, enough, weighed, weight_after, held, digest_of, gathered_after}
 use Rattle.aggregators.specs.Tallies.{fresh, counted, tally_after, digests}
 use Rattle.aggregators.specs.declared.tally.Tally.{Tally}
@@ -47,19 +45,10 @@ pub record Weighing (ms : List ℕ) (q size : ℕ) (xs : List ℕ) (at n i : ℕ
   pub fits : at + n * size ≤ length xs
   pub wide : 32 ≤ size
   pub threshold : q ≡ quorum (total (members_of ms))
-  pub below : q ≤ 4294967295
-  pub small : t.weight ≤ 4294967295
   pub left : tally_after (quorum_in ms) (stake_by ms) (keys (items size xs at n)) 0 fresh ≡ tally_after (quorum_in ms) (stake_by ms) (keys (drop i (items size xs at n))) i t
 
-pub weighing-start : (ms : List ℕ) (q size : ℕ) (xs : List ℕ) (at n : ℕ) → q ≡ quorum (total (members_of ms)) → q ≤ 4294967295 → at + n * size ≤ length xs → 32 ≤ size → Weighing ms q size xs at n 0 (record { weight = 0; from = 0 })
-weighing-start ms q size xs at n a b h w = record { high = omega arith; fits = h; wide = w; threshold = a; below = b; small = omega arith; left = refl }
-
-counted-small : (q s next : ℕ) (t r : Tally) → r ≡ counted q s next t → q ≤ 4294967295 → r.weight ≤ 4294967295
-unfolding counted enough
-counted-small q s next t r e h = ⊎_elim
-    (λ (b : leb q (t.weight + s) ≡ true). let z : r.weight ≡ 0 = rw e (rw (b, counted)) in omega arith)
-    (λ (b : leb q (t.weight + s) ≡ false). let z : r.weight ≡ t.weight + s = rw e (rw (b, counted)) in omega (arith, leb-false q (t.weight + s) b))
-    (true-or-false (leb q (t.weight + s)))
+pub weighing-start : (ms : List ℕ) (q size : ℕ) (xs : List ℕ) (at n : ℕ) → q ≡ quorum (total (members_of ms)) → at + n * size ≤ length xs → 32 ≤ size → Weighing ms q size xs at n 0 (record { weight = 0; from = 0 })
+weighing-start ms q size xs at n a h w = record { high = omega arith; fits = h; wide = w; threshold = a; left = refl }
 
 tally-on : (q : ℕ) (stake : List ℕ → ℕ) (rs : List (List ℕ)) (i i' : ℕ) (t : Tally) → i' ≡ i + 1 → i < length rs → tally_after q stake (keys (drop i rs)) i t ≡ tally_after q stake (keys (drop i' rs)) i' (counted q (stake (key_of (get_or rs i []))) i' t)
 unfolding tally_after keys
@@ -80,10 +69,6 @@ module _ (ms : List ℕ) (q size : ℕ) (xs : List ℕ) (at n i : ℕ) (t : Tall
       weighing-reach = omega (arith, ap length e, item-length size xs at n s.fits i l, s.wide)
 
       module _ (k : List ℕ) (f : k ≡ key_of r) where
-        pub weighing-key : length k ≡ 32
-        unfolding key_of
-        weighing-key = ap length f ∙ length_part r 0 32 weighing-reach
-
         pub weighing-next : (w : ℕ) (u : Tally) → w ≡ stake_of (members_of ms) k → u ≡ counted q w (i + 1) t → Weighing ms q size xs at n (i + 1) u
         weighing-next w u g h =
             let m : stake_of (members_of ms) (key_of (get_or (items size xs at n) i [])) ≡ w = sym (g ∙ ap (stake_of (members_of ms)) (f ∙ ap key_of (e ∙ item-is size xs at n s.fits i l))) in
@@ -93,8 +78,6 @@ module _ (ms : List ℕ) (q size : ℕ) (xs : List ℕ) (at n i : ℕ) (t : Tall
               fits = s.fits;
               wide = s.wide;
               threshold = s.threshold;
-              below = s.below;
-              small = counted-small q w (i + 1) t u h s.below;
               left = s.left ∙ o ∙ rw (m, ← s.threshold, ← h);
             }
 
@@ -162,25 +145,7 @@ from-go q stake (k ∷ ks) i t h = let r = from-go q stake ks (suc i) (counted q
 pub from_is : (q : ℕ) (stake : List ℕ → ℕ) (ks : List (List ℕ)) → (tally_after q stake ks 0 fresh).from ≤ length ks
 from_is q stake ks = let r = from-go q stake ks 0 fresh (omega arith) in omega arith
 
--- ---- the weight stays below quorum
-weighed-below : (q w s : ℕ) → w < q → weighed q w s < q
-unfolding weighed enough
-weighed-below q w s h = go (leb q (w + s)) refl where
-  go : (b : Bool) → leb q (w + s) ≡ b → weighed q w s < q
-  go true e = rw (e, weighed) (omega arith)
-  go false e = rw (e, weighed) (leb-false q (w + s) e)
-
-weight-below : (q : ℕ) (stake : List ℕ → ℕ) (ks : List (List ℕ)) (w : ℕ) → w < q → weight_after q stake ks w < q
-unfolding weight_after
-weight-below q stake [] w h = h
-weight-below q stake (k ∷ ks) w h = weight-below q stake ks (weighed q w (stake k)) (weighed-below q w (stake k) h)
-
-pub weight-small : (ms : List ℕ) (ks : List (List ℕ)) → valid_members ms ≡ true → weight_after (quorum_in ms) (stake_by ms) ks 0 ≤ 4294967295
-unfolding quorum
-weight-small ms ks h =
-    let l = weight-below (quorum_in ms) (stake_by ms) ks 0 (omega arith) in
-    omega (arith, valid-weight ms (total (members_of ms)) h refl)
-
+-- ---- quorum reached
 pub enough-is : (ms key : List ℕ) (w q s : ℕ) → q ≡ quorum (total (members_of ms)) → s ≡ stake_of (members_of ms) key → leb q (w + s) ≡ enough (quorum_in ms) w (stake_by ms key)
 unfolding enough
 enough-is ms key w q s a b = rw (a, b)

@@ -1,12 +1,13 @@
 // The certificates counted in each round: a table with a row for each round, read and never written here.
 // A row: round 4, how many pairs 1, then 32 pairs of an origin's key and a digest, in the order counted.
-ghost use Rattle.std.specs.Prelude.{◌≡◌, true, ◌≤◌, ◌<◌, length};
+ghost use Rattle.std.specs.Prelude.{◌≡◌, true, false, ◌≤◌, ◌<◌, length, IfOk, IfErr, OnOk, OnErr};
 ghost use Rattle.wire.specs.Items.{first_of, all_of};
 ghost use Rattle.table.specs.Rows.{shaped, rows_of};
-ghost use Rattle.config.specs.Committee.{valid_members};
 ghost use Rattle.aggregators.specs.Weight.{is_in};
 ghost use Rattle.aggregators.specs.Certificates.{pair_count, pairs_of, of_round, few_pairs, are_counts, given_count, place_for};
+ghost use Rattle.refusal.specs.declared.Refusal.TheVariants.{BadShape};
 
+use config::committee::Committee;
 use refusal::Refusal;
 
 pub const ROW: usize = 2053;
@@ -74,50 +75,73 @@ pub fn find_round(counts: &[u8], round: u32) -> Option<usize>
 }
 
 // Whether an origin is counted in a row.
-pub fn has_origin(row: &[u8], origin: &[u8]) -> bool
-    requires row_len { length row.now ≡ 2053 }
-    requires row_value { few_pairs row.now ≡ true }
-    requires origin_len { length origin.now ≡ 32 }
+pub fn has_origin(row: &[u8; ROW], origin: &[u8; 32]) -> bool
+    requires { few_pairs row.now ≡ true }
     ensures { result ≡ is_in origin.now (pairs_of row.now) }
 {
     crate::tally::has_key(row, PAIR, PAIRS, pair_count(row), origin)
 }
 
-// Where a certificate of the origin is counted.
-pub fn place_for(counts: &[u8], round: u32, origin: &[u8]) -> Result<Place, Refusal>
-    requires counts_value { are_counts counts.now ≡ true }
-    requires origin_len { length origin.now ≡ 32 }
-    ensures { result ≡ place_for counts.now round origin.now }
-{
-    let Some(i) = find_round(counts, round) else {
-        if table::rows::room(counts, ROW) {
-            return Ok(Place::New);
-        }
-        return Err(Refusal::NoRoom);
-    };
-    let row = table::rows::row(counts, ROW, i);
-    if has_origin(row, origin) {
-        return Ok(Place::Counted);
-    }
-    if 32 <= pair_count(row) {
-        return Err(Refusal::NoRoom);
-    }
-    Ok(Place::Row(i))
+// A table of such rows.
+#[derive(Clone, Copy)]
+pub struct Counts<'a> {
+    pub bytes: &'a [u8],
+    pub ghost shape: { are_counts bytes.now ≡ true },
 }
 
-// How many digests a row gives with a certificate of the origin more: at quorum those gathered and the new one.
-pub fn gives(members: &[u8], row: &[u8], origin: &[u8]) -> usize
-    requires members_value { valid_members members.now ≡ true }
-    requires row_len { length row.now ≡ 2053 }
-    requires row_bound { pair_count row.now < 32 }
-    requires origin_len { length origin.now ≡ 32 }
-    ensures { result ≡ given_count members.now row.now origin.now }
-{
-    let n = pair_count(row);
-    let t = crate::tally::count_keys(members, row, PAIR, PAIRS, n);
-    let weight = t.weight;
-    if !crate::tally::is_enough(members, weight, origin) {
-        return 0;
+impl<'a> Counts<'a> {
+    // The table in these bytes; refused where they are none.
+    pub fn new(bytes: &'a [u8]) -> Result<Counts<'a>, Refusal>
+        ensures bytes { IfOk result (λ c. c.bytes.now ≡ bytes.now) }
+        ensures inside { OnOk result (are_counts bytes.now ≡ true) }
+        ensures refused { IfErr result (λ e. e ≡ BadShape) }
+        ensures outside { OnErr result (are_counts bytes.now ≡ false) }
+    {
+        if !counts_shape(bytes) {
+            return Err(Refusal::BadShape);
+        }
+        Ok(Counts { bytes })
     }
-    n - t.from + 1
+
+    // Where a certificate of the origin is counted.
+    pub fn place_for(&self, round: u32, origin: &[u8; 32]) -> Result<Place, Refusal>
+        ensures { result ≡ place_for self.now.bytes.now round origin.now }
+    {
+        let Some(i) = find_round(self.bytes, round) else {
+            if table::rows::room(self.bytes, ROW) {
+                return Ok(Place::New);
+            }
+            return Err(Refusal::NoRoom);
+        };
+        let row = table::rows::row(self.bytes, ROW, i).try_into().unwrap();
+        if has_origin(row, origin) {
+            return Ok(Place::Counted);
+        }
+        if 32 <= pair_count(row) {
+            return Err(Refusal::NoRoom);
+        }
+        Ok(Place::Row(i))
+    }
+}
+
+// A row with a place for a pair more.
+#[derive(Clone, Copy)]
+pub struct Open<'a> {
+    pub row: &'a [u8; ROW],
+    pub ghost few: { pair_count row.now < 32 },
+}
+
+impl<'a> Open<'a> {
+    // How many digests the row gives with a certificate of the origin more: at quorum those gathered and the new one.
+    pub fn gives(&self, committee: &Committee, origin: &[u8; 32]) -> usize
+        ensures { result ≡ given_count committee.now.members.now self.now.row.now origin.now }
+    {
+        let row = self.row;
+        let n = pair_count(row);
+        let t = crate::tally::count_keys(committee, row, PAIR, PAIRS, n);
+        if !crate::tally::is_enough(committee, t.weight, origin) {
+            return 0;
+        }
+        n - t.from + 1
+    }
 }

@@ -1,9 +1,10 @@
 // The voters of a header: how many in one byte, then 32 keys in the order counted. Their weight is not kept: it is counted anew.
-ghost use Rattle.std.specs.Prelude.{◌≡◌, true, ◌≤◌, ◌<◌, length};
-ghost use Rattle.config.specs.Committee.{valid_members};
+ghost use Rattle.std.specs.Prelude.{◌≡◌, true, false, ◌≤◌, ◌<◌, length, IfOk, IfErr, OnOk, OnErr};
 ghost use Rattle.aggregators.specs.Weight.{is_in};
 ghost use Rattle.aggregators.specs.Votes.{voter_count, voters_of, with_voter, are_voters, votes_weight, vote_reaches, CountsVote};
+ghost use Rattle.refusal.specs.declared.Refusal.TheVariants.{BadShape};
 
+use config::committee::Committee;
 use refusal::Refusal;
 
 pub const VOTERS: usize = 1025;
@@ -28,40 +29,55 @@ pub fn voters_shape(voters: &[u8]) -> bool
     voter_count(voters) <= 32
 }
 
-// Whether an author was counted.
-pub fn has_voted(voters: &[u8], author: &[u8]) -> bool
-    requires voters_value { are_voters voters.now ≡ true }
-    requires author_len { length author.now ≡ 32 }
-    ensures { result ≡ is_in author.now (voters_of voters.now) }
-{
-    crate::tally::has_key(voters, KEY, 1, voter_count(voters), author)
+// Voters in shape.
+#[derive(Clone, Copy)]
+pub struct Voters<'a> {
+    pub bytes: &'a [u8],
+    pub ghost shape: { are_voters bytes.now ≡ true },
 }
 
-// The weight of the votes counted since quorum was last reached.
-pub fn votes_weight(members: &[u8], voters: &[u8]) -> u64
-    requires members_value { valid_members members.now ≡ true }
-    requires voters_value { are_voters voters.now ≡ true }
-    ensures { result ≡ votes_weight members.now voters.now }
-{
-    let t = crate::tally::count_keys(members, voters, KEY, 1, voter_count(voters));
-    t.weight
-}
+impl<'a> Voters<'a> {
+    // The voters in these bytes; refused where they are not in shape.
+    pub fn new(bytes: &'a [u8]) -> Result<Voters<'a>, Refusal>
+        ensures bytes { IfOk result (λ v. v.bytes.now ≡ bytes.now) }
+        ensures inside { OnOk result (are_voters bytes.now ≡ true) }
+        ensures refused { IfErr result (λ e. e ≡ BadShape) }
+        ensures outside { OnErr result (are_voters bytes.now ≡ false) }
+    {
+        if !voters_shape(bytes) {
+            return Err(Refusal::BadShape);
+        }
+        Ok(Voters { bytes })
+    }
 
-// Whether a vote of the author, counted behind these, reaches quorum.
-pub fn reaches(members: &[u8], voters: &[u8], author: &[u8]) -> bool
-    requires members_value { valid_members members.now ≡ true }
-    requires voters_value { are_voters voters.now ≡ true }
-    requires author_len { length author.now ≡ 32 }
-    ensures { result ≡ vote_reaches members.now voters.now author.now }
-{
-    crate::tally::is_enough(members, votes_weight(members, voters), author)
+    // Whether an author was counted.
+    pub fn has_voted(&self, author: &[u8; 32]) -> bool
+        ensures { result ≡ is_in author.now (voters_of self.now.bytes.now) }
+    {
+        crate::tally::has_key(self.bytes, KEY, 1, voter_count(self.bytes), author)
+    }
+
+    // The weight of the votes counted since quorum was last reached.
+    pub fn votes_weight(&self, committee: &Committee) -> u32
+        ensures { result ≡ votes_weight committee.now.members.now self.now.bytes.now }
+    {
+        let n = voter_count(self.bytes);
+        let t = crate::tally::count_keys(committee, self.bytes, KEY, 1, n);
+        t.weight
+    }
+
+    // Whether a vote of the author, counted behind these, reaches quorum.
+    pub fn reaches(&self, committee: &Committee, author: &[u8; 32]) -> bool
+        ensures { result ≡ vote_reaches committee.now.members.now self.now.bytes.now author.now }
+    {
+        crate::tally::is_enough(committee, self.votes_weight(committee), author)
+    }
 }
 
 // A voter more.
-pub fn put_voter(voters: &mut [u8], author: &[u8])
+pub fn put_voter(voters: &mut [u8], author: &[u8; 32])
     requires voters_value { are_voters voters.old ≡ true }
     requires voters_bound { voter_count voters.old < 32 }
-    requires author_len { length author.now ≡ 32 }
     ensures { voters.new ≡ with_voter voters.old author.now }
 {
     let n = voter_count(voters);
@@ -73,25 +89,16 @@ pub fn put_voter(voters: &mut [u8], author: &[u8])
 pub fn count_vote(members: &[u8], voters: &mut [u8], author: &[u8]) -> Result<u32, Refusal>
     ensures { CountsVote members.now voters.old author.now result voters.new }
 {
-    if !config::committee::valid_members(members) {
-        return Err(Refusal::BadCommittee);
-    }
-    if !voters_shape(voters) {
-        return Err(Refusal::BadShape);
-    }
-    if author.len() != 32 {
-        return Err(Refusal::BadShape);
-    }
-    if has_voted(voters, author) {
+    let committee = Committee::new(members)?;
+    let counted = Voters::new(voters)?;
+    let author = refusal::key(author)?;
+    if counted.has_voted(author) {
         return Err(Refusal::AuthorityReuse);
     }
-    if 32 <= voter_count(voters) {
+    if 32 <= voter_count(counted.bytes) {
         return Err(Refusal::NoRoom);
     }
-    let reached = reaches(members, voters, author);
+    let reached = counted.reaches(&committee, author);
     put_voter(voters, author);
-    if reached {
-        return Ok(1);
-    }
-    Ok(0)
+    Ok(u32::from(reached))
 }

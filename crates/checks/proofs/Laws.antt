@@ -8,7 +8,6 @@ use lib.Dec.{eqb}
 use lib.ListN.{length, get_or}
 use borrow.Author.Tests.{lt-ltb, le-ltb, le-leb, lt-leb, not-true, not-false}
 use Rattle.wire.specs.Items.{items, item_in, all_of}
-use Rattle.wire.proofs.Laws.{length_part}
 use Rattle.wire.proofs.Lists.{item-is, item-fits, item-length, all-at}
 use Rattle.config.specs.Members.{members_of, worker_count, has_worker, lawful}
 use Rattle.config.specs.Committee.{valid_members, standing_of, stake_of}
@@ -18,7 +17,7 @@ use Rattle.config.proofs.Laws.{valid, members-are, members-fit, length-members, 
 use Rattle.messages.specs.Header.{author_of, payload_count, payload_of, worker_in, header_shape}
 use Rattle.messages.specs.Vote.{vote_author, vote_shape}
 use Rattle.messages.specs.Certificate.{header_of, certificate_shape}
-use Rattle.messages.proofs.Laws.{header-length, header-payload, vote-length, certificate-headed}
+use Rattle.messages.proofs.Laws.{header-length, header-payload, certificate-headed}
 use Rattle.checks.specs.Answers.{ensure, and_then}
 use Rattle.checks.specs.Header.{has_stake, works_for, workers_known, header_checks, header_check}
 use Rattle.checks.specs.Vote.{vote_checks, vote_check}
@@ -26,7 +25,7 @@ use Rattle.checks.specs.Certificate.{votes_checks, certificate_checks, certifica
 use Rattle.refusal.specs.Answers.{Answer}
 use Rattle.refusal.specs.declared.Refusal.{Refusal}
 use Rattle.std.specs.Prelude.{Ok, Err}
-use Rattle.refusal.specs.declared.Refusal.TheVariants.{BadCommittee, BadShape, InvalidHeaderId, UnknownAuthority, MalformedHeader, InvalidSignature, AuthorityReuse, CertificateRequiresQuorum}
+use Rattle.refusal.specs.declared.Refusal.TheVariants.{BadCommittee, BadShape, InvalidHeaderId, UnknownAuthority, MalformedHeader, InvalidSignature}
 
 -- ---- workers
 pub works-is : (member p : List ℕ) (w : ℕ) (b : Bool) → w ≡ worker_in p → b ≡ has_worker w member → b ≡ works_for member p
@@ -39,10 +38,6 @@ payload-fits h n s e = omega (arith, header-length h s, header-payload h s)
 pub workers-are : (member h : List ℕ) (n : ℕ) (b : Bool) → n ≡ payload_count h → b ≡ all_of (works_for member) (items 36 h 1098 n) → b ≡ all_of (works_for member) (payload_of h)
 unfolding payload_of
 workers-are member h n b e f = f ∙ rw e
-
-pub author-32 : (h a : List ℕ) → header_shape h ≡ true → a ≡ author_of h → length a ≡ 32
-unfolding author_of
-author-32 h a s e = ap length e ∙ length_part h 32 32 (omega (arith, header-length h s))
 
 module _ (ms h a : List ℕ) (x : Option Standing) (ea : a ≡ author_of h) (e : x ≡ standing_of (members_of ms) a) where
   standing : standing_of (members_of ms) (author_of h) ≡ x
@@ -119,10 +114,6 @@ module _ (ms : List (List ℕ)) (h : List ℕ) (id_ok sig_ok : Bool) where
         header-good o = rw (not-false id_ok n, stake-some ms a (author_of h) w ea ew z, sym eb ∙ not-false b m, not-false sig_ok o)
 
 -- ---- a vote's
-pub voter-32 : (v a : List ℕ) → vote_shape v ≡ true → a ≡ vote_author v → length a ≡ 32
-unfolding vote_author
-voter-32 v a s e = ap length e ∙ length_part v 64 32 (omega (arith, vote-length v s))
-
 module _ (ms : List (List ℕ)) (v : List ℕ) (sig_ok : Bool) (a : List ℕ) (w : ℕ) (ea : a ≡ vote_author v) (ew : w ≡ stake_of ms a) where
   pub vote-unknown : w ≡ 0 → (Err UnknownAuthority) ≡ vote_checks ms v sig_ok
   unfolding vote_checks ensure
@@ -137,7 +128,7 @@ module _ (ms : List (List ℕ)) (v : List ℕ) (sig_ok : Bool) (a : List ℕ) (w
     unfolding vote_checks ensure
     vote-good o = rw (stake-some ms a (vote_author v) w ea ew z, not-false sig_ok o)
 
--- ---- 10, then 11, then what is found
+-- ---- 10, then 11, then what is found: ms', h', v' and c' are what the tests give back of what they are passed
 bad : (t t' : Bool) (x : Answer) → t ≡ false → (Err BadCommittee) ≡ ensure t BadCommittee (ensure t' BadShape x)
 unfolding ensure
 bad t t' x e = rw e
@@ -150,78 +141,92 @@ looked : (t t' : Bool) (r x : Answer) → t ≡ true → t' ≡ true → r ≡ x
 unfolding ensure
 looked t t' r x e f g = rw (e, f) g
 
-pub is_true : (b x : Bool) → b ≡ x → not b ≡ false → x ≡ true
-is_true b x e n = sym e ∙ not-false b n
+valid-still : (ms ms' : List ℕ) → valid_members ms' ≡ true → ms' ≡ ms → valid_members ms ≡ true
+valid-still ms ms' v m = rw (← m) v
 
-is_false : (b x : Bool) → b ≡ x → not b ≡ true → x ≡ false
-is_false b x e n = sym e ∙ not-true b n
-
-module _ (ms h : List ℕ) (id_ok sig_ok : ℕ) (b : Bool) (e : b ≡ valid_members ms) where
-  pub header-10 : not b ≡ true → (Err BadCommittee) ≡ header_check ms h id_ok sig_ok
+module _ (ms h : List ℕ) (id_ok sig_ok : ℕ) where
+  pub header-10 : valid_members ms ≡ false → (Err BadCommittee) ≡ header_check ms h id_ok sig_ok
   unfolding header_check
-  header-10 n = bad _ _ _ (is_false b _ e n)
+  header-10 n = bad _ _ _ n
 
-  module _ (n : not b ≡ false) (b' : Bool) (e' : b' ≡ header_shape h) where
-    pub header-11 : not b' ≡ true → (Err BadShape) ≡ header_check ms h id_ok sig_ok
+  module _ (ms' : List ℕ) (w : valid_members ms' ≡ true) (m : ms' ≡ ms) where
+    pub header-11 : header_shape h ≡ false → (Err BadShape) ≡ header_check ms h id_ok sig_ok
     unfolding header_check
-    header-11 n' = misshapen _ _ _ (is_true b _ e n) (rw (is_false b' _ e' n'))
+    header-11 n = misshapen _ _ _ (valid-still ms ms' w m) (rw n)
 
-    pub header-11-id : 1 < id_ok → (Err BadShape) ≡ header_check ms h id_ok sig_ok
-    unfolding header_check
-    header-11-id l = misshapen _ _ _ (is_true b _ e n) (simp (lt-leb id_ok 1 l, and-false))
+    module _ (h' : List ℕ) (s : header_shape h' ≡ true) (e : h' ≡ h) where
+      header-still : header_shape h ≡ true
+      header-still = rw (← e) s
 
-    pub header-11-signature : 1 < sig_ok → (Err BadShape) ≡ header_check ms h id_ok sig_ok
-    unfolding header_check
-    header-11-signature l = misshapen _ _ _ (is_true b _ e n) (simp (lt-leb sig_ok 1 l, and-false))
+      pub header-11-id : 1 < id_ok → (Err BadShape) ≡ header_check ms h id_ok sig_ok
+      unfolding header_check
+      header-11-id l = misshapen _ _ _ (valid-still ms ms' w m) (simp (lt-leb id_ok 1 l, and-false))
 
-    pub header-found : not b' ≡ false → id_ok ≤ 1 → sig_ok ≤ 1 → (r : Answer) → r ≡ header_checks (members_of ms) h (eqb id_ok 1) (eqb sig_ok 1) → r ≡ header_check ms h id_ok sig_ok
-    unfolding header_check
-    header-found n' l l' r f = looked _ _ r _ (is_true b _ e n) (rw (is_true b' _ e' n', le-leb id_ok 1 l, le-leb sig_ok 1 l')) f
+      module _ (l0 : id_ok ≤ 1) (b0 : Bool) (e0 : b0 ≡ eqb id_ok 1) where
+        pub header-11-signature : 1 < sig_ok → (Err BadShape) ≡ header_check ms h id_ok sig_ok
+        unfolding header_check
+        header-11-signature l = misshapen _ _ _ (valid-still ms ms' w m) (simp (lt-leb sig_ok 1 l, and-false))
 
-module _ (ms v : List ℕ) (sig_ok : ℕ) (b : Bool) (e : b ≡ valid_members ms) where
-  pub vote-10 : not b ≡ true → (Err BadCommittee) ≡ vote_check ms v sig_ok
+        module _ (l1 : sig_ok ≤ 1) (b1 : Bool) (e1 : b1 ≡ eqb sig_ok 1) where
+          pub header-found : (r : Answer) → r ≡ header_checks (members_of ms') h' b0 b1 → r ≡ header_check ms h id_ok sig_ok
+          unfolding header_check
+          header-found r f = looked _ _ r _ (valid-still ms ms' w m) (rw (header-still, le-leb id_ok 1 l0, le-leb sig_ok 1 l1)) (rw (← m, ← e, ← e0, ← e1) f)
+
+module _ (ms v : List ℕ) (sig_ok : ℕ) where
+  pub vote-10 : valid_members ms ≡ false → (Err BadCommittee) ≡ vote_check ms v sig_ok
   unfolding vote_check
-  vote-10 n = bad _ _ _ (is_false b _ e n)
+  vote-10 n = bad _ _ _ n
 
-  module _ (n : not b ≡ false) (b' : Bool) (e' : b' ≡ vote_shape v) where
-    pub vote-11 : not b' ≡ true → (Err BadShape) ≡ vote_check ms v sig_ok
+  module _ (ms' : List ℕ) (w : valid_members ms' ≡ true) (m : ms' ≡ ms) where
+    pub vote-11 : vote_shape v ≡ false → (Err BadShape) ≡ vote_check ms v sig_ok
     unfolding vote_check
-    vote-11 n' = misshapen _ _ _ (is_true b _ e n) (rw (is_false b' _ e' n'))
+    vote-11 n = misshapen _ _ _ (valid-still ms ms' w m) (rw n)
 
-    pub vote-11-signature : 1 < sig_ok → (Err BadShape) ≡ vote_check ms v sig_ok
-    unfolding vote_check
-    vote-11-signature l = misshapen _ _ _ (is_true b _ e n) (simp (lt-leb sig_ok 1 l, and-false))
+    module _ (v' : List ℕ) (s : vote_shape v' ≡ true) (e : v' ≡ v) where
+      vote-still : vote_shape v ≡ true
+      vote-still = rw (← e) s
 
-    pub vote-found : not b' ≡ false → sig_ok ≤ 1 → (r : Answer) → r ≡ vote_checks (members_of ms) v (eqb sig_ok 1) → r ≡ vote_check ms v sig_ok
-    unfolding vote_check
-    vote-found n' l r f = looked _ _ r _ (is_true b _ e n) (rw (is_true b' _ e' n', le-leb sig_ok 1 l)) f
+      pub vote-11-signature : 1 < sig_ok → (Err BadShape) ≡ vote_check ms v sig_ok
+      unfolding vote_check
+      vote-11-signature l = misshapen _ _ _ (valid-still ms ms' w m) (simp (lt-leb sig_ok 1 l, and-false))
 
-module _ (ms c : List ℕ) (id_ok sig_ok batch_ok : ℕ) (b : Bool) (e : b ≡ valid_members ms) where
-  pub certificate-10 : not b ≡ true → (Err BadCommittee) ≡ certificate_check ms c id_ok sig_ok batch_ok
+      module _ (l0 : sig_ok ≤ 1) (b0 : Bool) (e0 : b0 ≡ eqb sig_ok 1) where
+        pub vote-found : (r : Answer) → r ≡ vote_checks (members_of ms') v' b0 → r ≡ vote_check ms v sig_ok
+        unfolding vote_check
+        vote-found r f = looked _ _ r _ (valid-still ms ms' w m) (rw (vote-still, le-leb sig_ok 1 l0)) (rw (← m, ← e, ← e0) f)
+
+module _ (ms c : List ℕ) (id_ok sig_ok batch_ok : ℕ) where
+  pub certificate-10 : valid_members ms ≡ false → (Err BadCommittee) ≡ certificate_check ms c id_ok sig_ok batch_ok
   unfolding certificate_check
-  certificate-10 n = bad _ _ _ (is_false b _ e n)
+  certificate-10 n = bad _ _ _ n
 
-  module _ (n : not b ≡ false) (b' : Bool) (e' : b' ≡ certificate_shape c) where
-    pub certificate-11 : not b' ≡ true → (Err BadShape) ≡ certificate_check ms c id_ok sig_ok batch_ok
+  module _ (ms' : List ℕ) (w : valid_members ms' ≡ true) (m : ms' ≡ ms) where
+    pub certificate-11 : certificate_shape c ≡ false → (Err BadShape) ≡ certificate_check ms c id_ok sig_ok batch_ok
     unfolding certificate_check
-    certificate-11 n' = misshapen _ _ _ (is_true b _ e n) (rw (is_false b' _ e' n'))
+    certificate-11 n = misshapen _ _ _ (valid-still ms ms' w m) (rw n)
 
-    pub certificate-11-id : 1 < id_ok → (Err BadShape) ≡ certificate_check ms c id_ok sig_ok batch_ok
-    unfolding certificate_check
-    certificate-11-id l = misshapen _ _ _ (is_true b _ e n) (simp (lt-leb id_ok 1 l, and-false))
+    module _ (c' : List ℕ) (s : certificate_shape c' ≡ true) (e : c' ≡ c) where
+      certificate-still : certificate_shape c ≡ true
+      certificate-still = rw (← e) s
 
-    pub certificate-11-signature : 1 < sig_ok → (Err BadShape) ≡ certificate_check ms c id_ok sig_ok batch_ok
-    unfolding certificate_check
-    certificate-11-signature l = misshapen _ _ _ (is_true b _ e n) (simp (lt-leb sig_ok 1 l, and-false))
+      pub certificate-11-id : 1 < id_ok → (Err BadShape) ≡ certificate_check ms c id_ok sig_ok batch_ok
+      unfolding certificate_check
+      certificate-11-id l = misshapen _ _ _ (valid-still ms ms' w m) (simp (lt-leb id_ok 1 l, and-false))
 
-    pub certificate-11-batch : 1 < batch_ok → (Err BadShape) ≡ certificate_check ms c id_ok sig_ok batch_ok
-    unfolding certificate_check
-    certificate-11-batch l = misshapen _ _ _ (is_true b _ e n) (simp (lt-leb batch_ok 1 l, and-false))
+      module _ (l0 : id_ok ≤ 1) (b0 : Bool) (e0 : b0 ≡ eqb id_ok 1) where
+        pub certificate-11-signature : 1 < sig_ok → (Err BadShape) ≡ certificate_check ms c id_ok sig_ok batch_ok
+        unfolding certificate_check
+        certificate-11-signature l = misshapen _ _ _ (valid-still ms ms' w m) (simp (lt-leb sig_ok 1 l, and-false))
 
-    pub certificate-found : not b' ≡ false → id_ok ≤ 1 → sig_ok ≤ 1 → batch_ok ≤ 1 → (r : Answer) → r ≡ certificate_checks (members_of ms) c (eqb id_ok 1) (eqb sig_ok 1) (eqb batch_ok 1) → r ≡ certificate_check ms c id_ok sig_ok batch_ok
-    unfolding certificate_check
-    certificate-found n' l l' l'' r f =
-        looked _ _ r _ (is_true b _ e n) (rw (is_true b' _ e' n', le-leb id_ok 1 l, le-leb sig_ok 1 l', le-leb batch_ok 1 l'')) f
+        module _ (l1 : sig_ok ≤ 1) (b1 : Bool) (e1 : b1 ≡ eqb sig_ok 1) where
+          pub certificate-11-batch : 1 < batch_ok → (Err BadShape) ≡ certificate_check ms c id_ok sig_ok batch_ok
+          unfolding certificate_check
+          certificate-11-batch l = misshapen _ _ _ (valid-still ms ms' w m) (simp (lt-leb batch_ok 1 l, and-false))
+
+          module _ (l2 : batch_ok ≤ 1) (b2 : Bool) (e2 : b2 ≡ eqb batch_ok 1) where
+            pub certificate-found : (r : Answer) → r ≡ certificate_checks (members_of ms') c' b0 b1 b2 → r ≡ certificate_check ms c id_ok sig_ok batch_ok
+            unfolding certificate_check
+            certificate-found r f = looked _ _ r _ (valid-still ms ms' w m) (rw (certificate-still, le-leb id_ok 1 l0, le-leb sig_ok 1 l1, le-leb batch_ok 1 l2)) (rw (← m, ← e, ← e0, ← e1, ← e2) f)
 
 -- ---- a certificate's checks: the header's, then the votes'
 pub certificate-headed-by : (c h : List ℕ) → certificate_shape c ≡ true → h ≡ header_of c → header_shape h ≡ true

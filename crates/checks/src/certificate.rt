@@ -1,18 +1,19 @@
 // A certificate's checks.
-ghost use Rattle.std.specs.Prelude.{◌≡◌, true, [], ◌≤◌, length};
+ghost use Rattle.std.specs.Prelude.{◌≡◌, []};
 ghost use Rattle.config.specs.Members.{members_of};
-ghost use Rattle.config.specs.Committee.{valid_members};
-ghost use Rattle.messages.specs.Certificate.{vote_count, voters_of, certificate_shape};
+ghost use Rattle.messages.specs.Certificate.{voters_of};
 ghost use Rattle.checks.specs.Certificate.{weighed, votes_checks, certificate_checks, certificate_check};
 
-use messages::certificate::VOTERS;
+use config::committee::Committee;
+use messages::certificate::{Certificate, VOTERS};
+use messages::header::Header;
 use refusal::Refusal;
 
 // The stake of all voters, or what is wrong with the first wrong one.
-fn weigh(members: &[u8], certificate: &[u8]) -> Result<u64, Refusal>
-    requires { certificate_shape certificate.now ≡ true }
-    ensures { result ≡ weighed (members_of members.now) [] 0 (voters_of certificate.now) }
+fn weigh(members: &[u8], certificate: &Certificate) -> Result<u64, Refusal>
+    ensures { result ≡ weighed (members_of members.now) [] 0 (voters_of certificate.now.bytes.now) }
 {
+    let certificate = certificate.bytes;
     let n = messages::certificate::vote_count(certificate);
     let mut weight: u64 = 0;
     for i in 0..n {
@@ -30,13 +31,15 @@ fn weigh(members: &[u8], certificate: &[u8]) -> Result<u64, Refusal>
 }
 
 // The checks of the votes.
-fn votes_checks(members: &[u8], certificate: &[u8], batch_ok: bool) -> Result<u32, Refusal>
-    requires members_value { valid_members members.now ≡ true }
-    requires certificate_value { certificate_shape certificate.now ≡ true }
-    ensures { result ≡ votes_checks (members_of members.now) certificate.now batch_ok }
+fn votes_checks(
+    committee: &Committee,
+    certificate: &Certificate,
+    batch_ok: bool,
+) -> Result<u32, Refusal>
+    ensures { result ≡ votes_checks (members_of committee.now.members.now) certificate.now.bytes.now batch_ok }
 {
-    let weight = weigh(members, certificate)?;
-    if weight < config::committee::quorum_threshold(members) as u64 {
+    let weight = weigh(committee.members, certificate)?;
+    if weight < committee.quorum_threshold() as u64 {
         return Err(Refusal::CertificateRequiresQuorum);
     }
     if !batch_ok {
@@ -47,23 +50,19 @@ fn votes_checks(members: &[u8], certificate: &[u8], batch_ok: bool) -> Result<u3
 
 // The checks of a certificate of the right shape.
 pub fn certificate_checks(
-    members: &[u8],
-    certificate: &[u8],
+    committee: &Committee,
+    certificate: &Certificate,
     id_ok: bool,
     sig_ok: bool,
     batch_ok: bool,
 ) -> Result<u32, Refusal>
-    requires members_value { valid_members members.now ≡ true }
-    requires certificate_value { certificate_shape certificate.now ≡ true }
-    ensures { result ≡ certificate_checks (members_of members.now) certificate.now id_ok sig_ok batch_ok }
+    ensures { result ≡ certificate_checks (members_of committee.now.members.now) certificate.now.bytes.now id_ok sig_ok batch_ok }
 {
-    crate::header::header_checks(
-        members,
-        messages::certificate::header(certificate),
-        id_ok,
-        sig_ok,
-    )?;
-    votes_checks(members, certificate, batch_ok)
+    let header = Header {
+        bytes: messages::certificate::header(certificate.bytes),
+    };
+    crate::header::header_checks(committee, &header, id_ok, sig_ok)?;
+    votes_checks(committee, certificate, batch_ok)
 }
 
 // A certificate, with the verdicts on its header's id and signature and on its votes' signatures: 1 is yes, 0 is no.
@@ -76,20 +75,10 @@ pub fn certificate_check(
 ) -> Result<u32, Refusal>
     ensures { result ≡ certificate_check members.now certificate.now id_ok sig_ok batch_ok }
 {
-    if !config::committee::valid_members(members) {
-        return Err(Refusal::BadCommittee);
-    }
-    if !messages::certificate::shape(certificate) {
-        return Err(Refusal::BadShape);
-    }
-    if 1 < id_ok {
-        return Err(Refusal::BadShape);
-    }
-    if 1 < sig_ok {
-        return Err(Refusal::BadShape);
-    }
-    if 1 < batch_ok {
-        return Err(Refusal::BadShape);
-    }
-    certificate_checks(members, certificate, id_ok == 1, sig_ok == 1, batch_ok == 1)
+    let committee = Committee::new(members)?;
+    let certificate = Certificate::new(certificate)?;
+    let id_ok = crate::verdict(id_ok)?;
+    let sig_ok = crate::verdict(sig_ok)?;
+    let batch_ok = crate::verdict(batch_ok)?;
+    certificate_checks(&committee, &certificate, id_ok, sig_ok, batch_ok)
 }

@@ -1,19 +1,18 @@
 // A vote's checks.
-ghost use Rattle.std.specs.Prelude.{◌≡◌, true};
+ghost use Rattle.std.specs.Prelude.{◌≡◌};
 ghost use Rattle.config.specs.Members.{members_of};
-ghost use Rattle.config.specs.Committee.{valid_members};
-ghost use Rattle.messages.specs.Vote.{vote_shape};
 ghost use Rattle.checks.specs.Vote.{vote_checks, vote_check};
 
+use config::committee::Committee;
+use messages::vote::Vote;
 use refusal::Refusal;
 
 // The checks of a vote of the right shape.
-pub fn vote_checks(members: &[u8], vote: &[u8], sig_ok: bool) -> Result<u32, Refusal>
-    requires members_value { valid_members members.now ≡ true }
-    requires vote_value { vote_shape vote.now ≡ true }
-    ensures { result ≡ vote_checks (members_of members.now) vote.now sig_ok }
+pub fn vote_checks(committee: &Committee, vote: &Vote, sig_ok: bool) -> Result<u32, Refusal>
+    ensures { result ≡ vote_checks (members_of committee.now.members.now) vote.now.bytes.now sig_ok }
 {
-    if config::committee::stake(members, messages::vote::author(vote)) == 0 {
+    let author = messages::vote::author(vote.bytes);
+    if config::committee::stake(committee.members, author) == 0 {
         return Err(Refusal::UnknownAuthority);
     }
     if !sig_ok {
@@ -26,14 +25,8 @@ pub fn vote_checks(members: &[u8], vote: &[u8], sig_ok: bool) -> Result<u32, Ref
 pub fn vote_check(members: &[u8], vote: &[u8], sig_ok: u8) -> Result<u32, Refusal>
     ensures { result ≡ vote_check members.now vote.now sig_ok }
 {
-    if !config::committee::valid_members(members) {
-        return Err(Refusal::BadCommittee);
-    }
-    if !messages::vote::shape(vote) {
-        return Err(Refusal::BadShape);
-    }
-    if 1 < sig_ok {
-        return Err(Refusal::BadShape);
-    }
-    vote_checks(members, vote, sig_ok == 1)
+    let committee = Committee::new(members)?;
+    let vote = Vote::new(vote)?;
+    let sig_ok = crate::verdict(sig_ok)?;
+    vote_checks(&committee, &vote, sig_ok)
 }

@@ -44,6 +44,12 @@ module _ (t : List ℕ) (n r : ℕ) (o l : ℕ) (eo : o ≡ leader_place n r) (e
     pub leader-digest : length d ≡ 32
     leader-digest = ap length ed ∙ digest-length t l s leader-low
 
+    pub start-low : find r d (held_of t) < count_of t
+    start-low =
+        let f = find-some r d (held_of t) (cert_at (held_of t) l) (at_in (held_of t) l low_held) round_is (sym ed) in
+        let k = length-held t in
+        omega arith
+
     pub start_is : (p : ℕ) → p ≡ find r d (held_of t) → StartOf n t r p
     start_is p ep =
         let a : r ≡ (leader_in n (held_of t) r).round = sym round_is ∙ ap (λ (c : Cert). c.round) leader-is in

@@ -12,36 +12,41 @@ ghost use Rattle.commit.specs.Commit.{leader_in, leaders_of, Ready, StartOf, Due
 ghost use Rattle.room.specs.Numbers.{numbers_of, rounds_of};
 ghost use Rattle.update.specs.Update.{Below};
 
+use held::{Held, State};
+use update::Places;
+
 // Where the walk under the leader of a round begins.
-fn start_of(table: &[u8], n: usize, round: u32) -> usize
-    requires table_value { held_shape n table.now ≡ true }
-    requires le_n { 1 ≤ n }
-    requires table_bound { pair_place (leader_place n round) round (held_of table.now) < count_of table.now }
-    ensures { StartOf n table.now round result }
+fn start_of(held: &Held, round: u32) -> usize
+    requires le_n { 1 ≤ held.now.members }
+    requires table_bound { pair_place (leader_place held.now.members round) round (held_of held.now.table.now) < count_of held.now.table.now }
+    ensures { StartOf held.now.members held.now.table.now round result }
 {
-    let o = config::committee::leader_place(n, round as u64);
-    let l = held::place::place_of(table, o, round);
-    held::place::find(table, round, held::place::digest_at(table, l))
+    let o = config::committee::leader_place(held.members, round as u64);
+    let l = held.place_of(o, round).unwrap();
+    held.find(round, held.digest_at(l)).unwrap()
 }
 
 // The places of what is due under the leader of a round, in the sort room. Answers how many.
 fn due(
     state: &[u8],
-    table: &[u8],
-    n: usize,
+    held: &Held,
     depth: u64,
     round: u32,
     pile: &mut [u8],
     marks: &mut [u8],
     sort: &mut [u8],
 ) -> usize
-    requires ready { Ready n depth state.now table.now pile.old marks.old sort.old }
-    requires table_bound { pair_place (leader_place n round) round (held_of table.now) < count_of table.now }
-    ensures { DueAt depth state.now table.now (leader_in n (held_of table.now) round) sort.new result }
+    requires ready { Ready held.now.members depth state.now held.now.table.now pile.old marks.old sort.old }
+    requires table_bound { pair_place (leader_place held.now.members round) round (held_of held.now.table.now) < count_of held.now.table.now }
+    ensures { DueAt depth state.now held.now.table.now (leader_in held.now.members (held_of held.now.table.now) round) sort.new result }
 {
-    let start = start_of(table, n, round);
-    let k = table::rows::count(table);
-    dag::order_dag(state, table, n, depth, start, pile, &mut marks[0..k], sort)
+    let start = start_of(held, round);
+    let k = held.len();
+    let state = State {
+        last: state,
+        held: *held,
+    };
+    dag::order_dag(&state, depth as u32, start, pile, &mut marks[0..k], sort)
 }
 
 // Lists the certificates at the first m places of the sort room from entry `at` on, raises, and clears. They are due under leader l.
@@ -56,7 +61,6 @@ fn list_due(
     at: usize,
 )
     requires table_value { held_shape n table.old ≡ true }
-    requires n_bound { n ≤ 32 }
     requires state_len { length state.old ≡ n * 4 }
     requires depth_bound { depth ≤ 4294967295 }
     requires m_in_bounds { m * 8 ≤ length sort.now }
@@ -64,9 +68,15 @@ fn list_due(
     requires m_in_bounds_2 { (at + m) * 37 ≤ length list.old }
     ensures { Written depth state.old table.old list.old at (map (cert_at (held_of table.old)) (take m (numbers_of sort.now))) state.new table.new list.new }
 {
-    update::entries::put_list(table, n, sort, m, list, at);
-    update::raise::raise_all(state, table, n, sort, m);
-    update::clear::clear(table, n, state, depth);
+    let held = Held { table, members: n };
+    let places = Places {
+        held,
+        room: sort,
+        count: m,
+    };
+    update::entries::put_list(&places, list, at);
+    update::raise::raise_all(state, &places);
+    update::clear::clear(table, n, state, depth as u32);
 }
 
 // A leader's turn: what is due under the leader of a round is listed from entry `at` on. Answers how many.
@@ -88,7 +98,15 @@ fn turn(
     requires table_in_bounds { (at + length (list_under depth (leader_in n (held_of table.old) round) (state_of state.old table.old))) * 37 ≤ length list.old }
     ensures { Turned n depth state.old table.old list.old at (leader_in n (held_of table.old) round) result state.new table.new list.new }
 {
-    let m = due(state, table, n, depth, round, pile, marks, sort);
+    let m = due(
+        state,
+        &Held { table, members: n },
+        depth,
+        round,
+        pile,
+        marks,
+        sort,
+    );
     list_due(state, table, n, depth, sort, m, list, at);
     m
 }

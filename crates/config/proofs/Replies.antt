@@ -14,7 +14,9 @@ use Rattle.config.specs.Committee.{valid_members, valid_setup, standing_of}
 use Rattle.config.specs.Answers.{of_members, shaped_as, setup_answer, worker_of}
 use Rattle.config.specs.declared.committee.Standing.{Standing}
 use Rattle.std.specs.Prelude.{Option, Some, None}
+use Rattle.std.specs.Int.{from_bool}
 use Rattle.refusal.specs.Answers.{Answer}
+use Rattle.refusal.specs.declared.Refusal.{Refusal}
 use Rattle.std.specs.Prelude.{Ok, Err}
 use Rattle.refusal.specs.declared.Refusal.TheVariants.{BadCommittee, BadShape}
 use Rattle.config.proofs.Laws.{valid, valid-setup, members-are, members-fit, length-members, lawful-workers, standing-below}
@@ -23,14 +25,17 @@ use Rattle.config.proofs.Laws.{valid, valid-setup, members-are, members-fit, len
 pub is-valid : (ms : List ℕ) (b : Bool) → b ≡ valid_members ms → not b ≡ false → valid_members ms ≡ true
 is-valid ms b e h = sym e ∙ not-false b h
 
-module _ (ms : List ℕ) (b : Bool) (e : b ≡ valid_members ms) where
-  pub bad-members : (a : Answer) → not b ≡ true → (Err BadCommittee) ≡ of_members ms a
-  unfolding of_members
-  bad-members a h = sym (rw (sym e ∙ not-true b h, of_members))
+pub bad_members : (ms : List ℕ) (r : Refusal) (a : Answer) → r ≡ BadCommittee → valid_members ms ≡ false → Err r ≡ of_members ms a
+unfolding of_members
+bad_members ms r a e v = rw e (sym (rw (v, of_members)))
 
-  pub good-members : (x a : Answer) → not b ≡ false → x ≡ a → x ≡ of_members ms a
-  unfolding of_members
-  good-members x a h q = q ∙ sym (rw (sym e ∙ not-false b h, of_members))
+pub good-members : (ms : List ℕ) (x a : Answer) → valid_members ms ≡ true → x ≡ a → x ≡ of_members ms a
+unfolding of_members
+good-members ms x a v q = q ∙ sym (rw (v, of_members))
+
+pub bad_shape : (t : Bool) (r : Refusal) (a : Answer) → r ≡ BadShape → t ≡ false → Err r ≡ shaped_as t a
+unfolding shaped_as
+bad_shape t r a e f = rw e (sym (rw (f, shaped_as)))
 
 pub bad-shape : (t : Bool) (a : Answer) → t ≡ false → (Err BadShape) ≡ shaped_as t a
 unfolding shaped_as
@@ -65,21 +70,18 @@ module _ (round : ℕ) where
   round-right h l = rw (le-leb 1 round h, le-leb round 4294967295 l)
 
 -- ---- a setup
-module _ (s : List ℕ) (b : Bool) (e : b ≡ valid_setup s) where
-  pub setup-bad : not b ≡ true → (Err BadCommittee) ≡ setup_answer s
+module _ (s : List ℕ) where
+  pub setup_bad : (r : Refusal) → r ≡ BadCommittee → valid_setup s ≡ false → Err r ≡ setup_answer s
   unfolding setup_answer
-  setup-bad h = sym (rw (sym e ∙ not-true b h, setup_answer))
+  setup_bad r e v = rw e (sym (rw (v, setup_answer)))
 
-  pub setup-good : not b ≡ false → Ok ((length s - 8) / 69) ≡ setup_answer s
+  pub setup-good : (n : ℕ) → valid_setup s ≡ true → n ≡ (length s - 8) / 69 → Ok n ≡ setup_answer s
   unfolding setup_answer
-  setup-good h = sym (rw (sym e ∙ not-false b h, setup_answer, length-drop))
+  setup-good n v e = rw e (sym (rw (v, setup_answer, length-drop)))
 
-  pub setup-long : not b ≡ false → 8 ≤ length s
-  setup-long h = (valid-setup s (sym e ∙ not-false b h)).long
-
-  pub setup-few : not b ≡ false → (length s - 8) / 69 ≤ 32
+  pub setup-few : valid_setup s ≡ true → (length s - 8) / 69 ≤ 32
   setup-few h =
-      let v = valid-setup s (sym e ∙ not-false b h) in
+      let v = valid-setup s h in
       rw length-drop at (valid (drop 8 s) v.members).few
 
 -- ---- a worker
@@ -112,10 +114,9 @@ module _ (ms key : List ℕ) (id : ℕ) (x : Option Standing) (e : x ≡ standin
       worker-few =
           lawful-workers r (rw row (all-at lawful (members_of ms) i (valid ms h).each (omega (arith, below, length-members ms))))
 
-      pub worker-yes : (b : Bool) → b ≡ has_worker id r → b ≡ true → 1 ≡ worker_of (members_of ms) key id
+      pub worker-is : (b : Bool) (n : ℕ) → b ≡ has_worker id r → n ≡ from_bool b → n ≡ worker_of (members_of ms) key id
       unfolding worker_of
-      worker-yes b p t = sym (rw (sym e ∙ g, worker_of, ← row, sym p ∙ t, worker_of))
-
-      pub worker-no : (b : Bool) → b ≡ has_worker id r → b ≡ false → 0 ≡ worker_of (members_of ms) key id
-      unfolding worker_of
-      worker-no b p t = sym (rw (sym e ∙ g, worker_of, ← row, sym p ∙ t, worker_of))
+      worker-is b n p q = q ∙ go b refl where
+        go : (x : Bool) → b ≡ x → from_bool x ≡ worker_of (members_of ms) key id
+        go true t = sym (rw (sym e ∙ g, worker_of, ← row, sym p ∙ t, worker_of))
+        go false t = sym (rw (sym e ∙ g, worker_of, ← row, sym p ∙ t, worker_of))

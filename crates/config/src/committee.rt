@@ -1,11 +1,13 @@
 // The member list: members one behind the other, and the setup: the depth (8 bytes), then the members.
-ghost use Rattle.std.specs.Prelude.{◌≡◌, true, ◌+◌, ◌*◌, ◌%◌, ◌≤◌, ◌<◌, length, drop};
+ghost use Rattle.std.specs.Prelude.{◌≡◌, true, false, ◌+◌, ◌-◌, ◌*◌, ◌/◌, ◌%◌, ◌≤◌, ◌<◌, length, drop, IfOk, IfErr, OnErr};
 ghost use Rattle.wire.specs.Bytes.{part, word};
 ghost use Rattle.wire.specs.Items.{all_of};
 ghost use Rattle.config.specs.Members.{members_of, lawful};
 ghost use Rattle.config.specs.Committee.{total, quorum, validity, leader_place, standing_of, stake_of, valid_members, valid_setup};
+ghost use Rattle.refusal.specs.declared.Refusal.TheVariants.{BadCommittee};
 
 use crate::members::MEMBER;
+use refusal::Refusal;
 
 // What a member is to the committee.
 #[derive(Clone, Copy, Debug, PartialEq, Eq)]
@@ -86,25 +88,87 @@ pub fn valid_setup(setup: &[u8]) -> bool
     valid_members(members_of(setup))
 }
 
-// The stake that makes a quorum (2f+1).
-pub fn quorum_threshold(members: &[u8]) -> u32
-    requires { valid_members members.now ≡ true }
-    ensures { result ≡ quorum (total (members_of members.now)) }
-{
-    (2 * total_stake(members) / 3 + 1) as u32
+// A member list inside the domain.
+#[derive(Clone, Copy)]
+pub struct Committee<'a> {
+    pub members: &'a [u8],
+    pub ghost valid: { valid_members members.now ≡ true },
 }
 
-// The stake that makes validity (f+1).
-pub fn validity_threshold(members: &[u8]) -> u32
-    requires { valid_members members.now ≡ true }
-    ensures { result ≡ validity (total (members_of members.now)) }
-{
-    ((total_stake(members) + 2) / 3) as u32
+impl<'a> Committee<'a> {
+    // The committee of a member list; refused where the list is outside the domain.
+    pub fn new(members: &'a [u8]) -> Result<Committee<'a>, Refusal>
+        ensures members { IfOk result (λ c. c.members.now ≡ members.now) }
+        ensures refused { IfErr result (λ e. e ≡ BadCommittee) }
+        ensures outside { OnErr result (valid_members members.now ≡ false) }
+    {
+        if !valid_members(members) {
+            return Err(Refusal::BadCommittee);
+        }
+        Ok(Committee { members })
+    }
+
+    // How many members there are.
+    pub fn len(&self) -> usize
+        ensures { result ≡ length self.now.members.now / 69 }
+    {
+        self.members.len() / MEMBER
+    }
+
+    // The stake that makes a quorum (2f+1).
+    pub fn quorum_threshold(&self) -> u32
+        ensures { result ≡ quorum (total (members_of self.now.members.now)) }
+    {
+        (2 * total_stake(self.members) / 3 + 1) as u32
+    }
+
+    // The stake that makes validity (f+1).
+    pub fn validity_threshold(&self) -> u32
+        ensures { result ≡ validity (total (members_of self.now.members.now)) }
+    {
+        ((total_stake(self.members) + 2) / 3) as u32
+    }
+}
+
+// A setup inside the domain.
+#[derive(Clone, Copy)]
+pub struct Setup<'a> {
+    pub bytes: &'a [u8],
+    pub ghost valid: { valid_setup bytes.now ≡ true },
+}
+
+impl<'a> Setup<'a> {
+    // The setup of these bytes; refused where they are outside the domain.
+    pub fn new(bytes: &'a [u8]) -> Result<Setup<'a>, Refusal>
+        ensures bytes { IfOk result (λ s. s.bytes.now ≡ bytes.now) }
+        ensures refused { IfErr result (λ e. e ≡ BadCommittee) }
+        ensures outside { OnErr result (valid_setup bytes.now ≡ false) }
+    {
+        if !valid_setup(bytes) {
+            return Err(Refusal::BadCommittee);
+        }
+        Ok(Setup { bytes })
+    }
+
+    // Its members.
+    pub fn committee(&self) -> Committee<'a>
+        ensures { result.members.now ≡ drop 8 self.now.bytes.now }
+    {
+        Committee {
+            members: members_of(self.bytes),
+        }
+    }
+
+    // How many members there are.
+    pub fn len(&self) -> usize
+        ensures { result ≡ (length self.now.bytes.now - 8) / 69 }
+    {
+        (self.bytes.len() - 8) / MEMBER
+    }
 }
 
 // What a key is to the committee; a stranger is nothing.
-pub fn standing_of(members: &[u8], key: &[u8]) -> Option<Standing>
-    requires { length key.now ≡ 32 }
+pub fn standing_of(members: &[u8], key: &[u8; 32]) -> Option<Standing>
     ensures { result ≡ standing_of (members_of members.now) key.now }
 {
     let n = members.len() / MEMBER;
@@ -116,8 +180,7 @@ pub fn standing_of(members: &[u8], key: &[u8]) -> Option<Standing>
 }
 
 // The stake of a key: a stranger has none.
-pub fn stake(members: &[u8], key: &[u8]) -> u32
-    requires { length key.now ≡ 32 }
+pub fn stake(members: &[u8], key: &[u8; 32]) -> u32
     ensures { result ≡ stake_of (members_of members.now) key.now }
 {
     match standing_of(members, key) {

@@ -22,6 +22,7 @@ use Rattle.consensus.specs.Walk.{Pile, put_one, put_all, open_parents, parents_a
 use Rattle.consensus.proofs.Marks.{ones, ones-le, ones-set}
 use Rattle.held.specs.Rows.{held_of, held_shape, lasts_of, state_of}
 use Rattle.held.proofs.Laws.{length-held, origin-below, parents-sized}
+use Rattle.std.specs.Prelude.{Option, Some, None, MatchOption, IsSome}
 use Rattle.dag.specs.Steps.{stack, pile_of, Sound, PutOn}
 
 -- ---- the last committed round
@@ -69,6 +70,12 @@ module _ (p : List ℕ) (h : ℕ) (f : List ℕ) (j : ℕ) (s : Sound p h f) whe
         let c = more in
         omega arith
 
+    pub put-marked : Sound p h (set f j 1)
+    put-marked =
+        let c = s.counted in
+        let m = more in
+        record { room = rw (length-set f j 1) s.room; counted = omega arith; each = λ k b. rw (length-set f j 1) (s.each k b) }
+
     pub put-fits : h * 8 + 8 ≤ length p
     put-fits =
         let a = below in
@@ -110,23 +117,28 @@ module _ (p : List ℕ) (h : ℕ) (f : List ℕ) (j : ℕ) (s : Sound p h f) whe
 
 -- ---- a parent
 
+pub chunk-there : {A : Type 0} (o : Option A) (P : A → Type 0) (n : ℕ) → MatchOption o (n ≡ 32 → ⊥) P → n ≡ 32 → IsSome o
+chunk-there None P n f e = absurd (f e)
+chunk-there (Some x) P n f e = refl
+
 -- item k is a digest
 pub digest-long : (ps d : List ℕ) (k : ℕ) → k * 32 + 32 ≤ length ps → d ≡ item_in 32 ps 0 k → length d ≡ 32
 unfolding item_in
 digest-long ps d k l e = ap length e ∙ length_part ps (0 + k * 32) 32 (omega arith)
 
-module _ (st t : List ℕ) (r : ℕ) (ps : List ℕ) (k : ℕ) (p : List ℕ) (h : ℕ) (f d : List ℕ) (j : ℕ) (lf : length f ≡ count_of t) (ed : d ≡ item_in 32 ps 0 k) (ej : j ≡ find r d (held_of t)) (s : Sound p h f) where
-  e : j ≡ find r (item_in 32 ps 0 k) (held_of t)
-  e = ej ∙ ap (λ (v : List ℕ). find r v (held_of t)) ed
-
+module _ (st t : List ℕ) (r : ℕ) (ps : List ℕ) (k : ℕ) (p : List ℕ) (h : ℕ) (f d : List ℕ) (ed : d ≡ item_in 32 ps 0 k) (s : Sound p h f) where
   -- not held in the round
-  pub parent-out : length f ≤ j → PutOn (put_all (open_parents (lasts_of st) (held_of t) r (item_in 32 ps 0 k ∷ []))) p h f p h f
+  pub parent-out : count_of t ≡ find r d (held_of t) → PutOn (put_all (open_parents (lasts_of st) (held_of t) r (item_in 32 ps 0 k ∷ []))) p h f p h f
   unfolding open_parents put_all
   parent-out o =
+      let e : count_of t ≡ find r (item_in 32 ps 0 k) (held_of t) = o ∙ ap (λ (v : List ℕ). find r v (held_of t)) ed in
       let n : ltb (find r (item_in 32 ps 0 k) (held_of t)) (length (held_of t)) ≡ false = le-ltb (find r (item_in 32 ps 0 k) (held_of t)) (length (held_of t)) (omega (arith, length-held t, e)) in
       put-none (put_all (open_parents (lasts_of st) (held_of t) r (item_in 32 ps 0 k ∷ []))) p h f s (rw (n, open_parents))
 
-  module _ (i : j < length f) (b : Bool) (q : b ≡ eqb (get_or (lasts_of st) (cert_at (held_of t) j).origin 0) (cert_at (held_of t) j).round) where
+  module _ (j : ℕ) (ej : j ≡ find r d (held_of t)) (i : j < count_of t) (b : Bool) (q : b ≡ eqb (get_or (lasts_of st) (cert_at (held_of t) j).origin 0) (cert_at (held_of t) j).round) where
+    e : j ≡ find r (item_in 32 ps 0 k) (held_of t)
+    e = ej ∙ ap (λ (v : List ℕ). find r v (held_of t)) ed
+
     in_held : ltb (find r (item_in 32 ps 0 k) (held_of t)) (length (held_of t)) ≡ true
     in_held = lt-ltb (find r (item_in 32 ps 0 k) (held_of t)) (length (held_of t)) (omega (arith, length-held t, e))
 

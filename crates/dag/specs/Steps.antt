@@ -1,4 +1,6 @@
 -- What each step leaves of pile, marks and list. Assumes nothing.
+use mathlib.Core.HLevel.{Π_prop}
+use native.Mathlib.Bridge.{le_prop}
 use Rattle.std.specs.Prelude.{ℕ, zero, suc, ◌+◌, ◌-◌, ◌*◌, ◌<◌, ◌≤◌, ◌≡◌, List, [], ◌∷◌, ◌++◌, length, get_or, take, drop}
 use Rattle.table.specs.Rows.{count_of}
 use Rattle.room.specs.Numbers.{numbers_of}
@@ -23,6 +25,14 @@ pub record Sound (p : List ℕ) (h : ℕ) (f : List ℕ) : Type 0 where
   pub room : length f * 8 ≤ length p
   pub counted : h ≤ ones f
   pub each : (k : ℕ) → k < h → get_or (numbers_of p) k 0 < length f
+
+-- so a struct can carry it
+pub Sound-prop : (p : List ℕ) (h : ℕ) (f : List ℕ) → IsProp (Sound p h f)
+Sound-prop p h f a b = λ i. record {
+  room = le_prop a.room b.room i;
+  counted = le_prop a.counted b.counted i;
+  each = Π_prop (λ k. Π_prop (λ l. le_prop)) a.each b.each i;
+}
 
 -- a step that puts on what g does: as many more on the pile as are marked
 pub record PutOn (g : Pile → Pile) (p : List ℕ) (h : ℕ) (f p' : List ℕ) (h' : ℕ) (f' : List ℕ) : Type 0 where

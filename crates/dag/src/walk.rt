@@ -1,19 +1,20 @@
 // The walk from a leader on a last-in first-out pile.
-ghost use Rattle.std.specs.Prelude.{◌≡◌, true, ◌+◌, ◌*◌, ◌<◌, ◌≤◌, length};
-ghost use Rattle.table.specs.Rows.{shaped, count_of};
-ghost use Rattle.held.specs.Rows.{held_of, held_shape};
-ghost use Rattle.dag.specs.Steps.{Sound, KeptNear, Followed, Walked};
+ghost use Rattle.std.specs.Prelude.{◌≡◌, ◌+◌, ◌*◌, ◌<◌, ◌≤◌, length};
+ghost use Rattle.table.specs.Rows.{count_of};
+ghost use Rattle.held.specs.Rows.{held_of};
+ghost use Rattle.dag.specs.Steps.{KeptNear, Followed, Walked};
+
+use crate::pile::Pile;
+use held::{Held, State};
 
 // Place x is listed behind the m listed before, unless round + depth < top. Answers how many are listed.
-fn keep_near(table: &[u8], depth: u64, top: u32, x: usize, out: &mut [u8], m: usize) -> usize
-    requires table_value { shaped 1062 table.now ≡ true }
-    requires depth_bound { depth ≤ 4294967295 }
-    requires x_bound { x < count_of table.now }
+fn keep_near(held: &Held, depth: u32, top: u32, x: usize, out: &mut [u8], m: usize) -> usize
+    requires x_bound { x < count_of held.now.table.now }
     requires m_in_bounds { m * 8 + 8 ≤ length out.old }
-    ensures { KeptNear (held_of table.now) depth top x out.old m out.new result }
+    ensures { KeptNear (held_of held.now.table.now) depth top x out.old m out.new result }
 {
-    let round = held::place::round_at(table, x) as u64;
-    if round + depth < top as u64 {
+    let round = held.round_at(x) as u64;
+    if round + (depth as u64) < top as u64 {
         return m;
     }
     room::put(out, m, x);
@@ -21,58 +22,46 @@ fn keep_near(table: &[u8], depth: u64, top: u32, x: usize, out: &mut [u8], m: us
 }
 
 // Takes the top off, lists it and puts its parents on, until the pile is empty. Answers how many are listed.
-fn follow(
-    state: &[u8],
-    table: &[u8],
-    n: usize,
-    depth: u64,
-    pile: &mut [u8],
-    height: usize,
-    marks: &mut [u8],
-    out: &mut [u8],
-) -> usize
-    requires table_value { held_shape n table.now ≡ true }
-    requires state_len { length state.now ≡ n * 4 }
-    requires depth_bound { depth ≤ 4294967295 }
-    requires marks_len { length marks.old ≡ count_of table.now }
-    requires sound { Sound pile.old height marks.old }
-    requires table_in_bounds { count_of table.now * 8 ≤ length out.old }
-    ensures { Followed state.now table.now depth result pile.old height pile.new marks.old marks.new out.old out.new }
+fn follow(state: &State, depth: u32, pile: &mut Pile, out: &mut [u8]) -> usize
+    requires marks_len { length pile.old.marks.now ≡ count_of state.now.held.table.now }
+    requires table_in_bounds { count_of state.now.held.table.now * 8 ≤ length out.old }
+    ensures { Followed state.now.last.now state.now.held.table.now depth result pile.old.bytes.now pile.old.height pile.new.bytes.now pile.old.marks.now pile.new.marks.now out.old out.new }
 {
-    let top = held::state::highest(state);
-    let mut h = height;
+    let top = held::state::highest(state.last);
     let mut m: usize = 0;
-    while 0 < h {
-        h -= 1;
-        let x = room::get(pile, h);
-        m = keep_near(table, depth, top, x, out, m);
-        h = crate::pile::put_parents(state, table, n, x, pile, h, marks);
+    // A pile grows while it is taken from, so no range counts the turns.
+    while 0 < pile.height {
+        let bytes = &mut *pile.bytes;
+        let x = room::get(bytes, pile.height - 1);
+        pile.height -= 1;
+        m = keep_near(&state.held, depth, top, x, out, m);
+        crate::pile::put_parents(state, x, pile);
     }
     m
 }
 
 // Lists what the leader reaches, but for the deep. Answers how many.
 pub fn walk(
-    state: &[u8],
-    table: &[u8],
-    n: usize,
-    depth: u64,
+    state: &State,
+    depth: u32,
     leader: usize,
     pile: &mut [u8],
     marks: &mut [u8],
     out: &mut [u8],
 ) -> usize
-    requires table_value { held_shape n table.now ≡ true }
-    requires state_len { length state.now ≡ n * 4 }
-    requires depth_bound { depth ≤ 4294967295 }
-    requires leader_bound { leader < count_of table.now }
-    requires marks_len { length marks.old ≡ count_of table.now }
-    requires table_in_bounds { count_of table.now * 8 ≤ length pile.old }
-    requires table_in_bounds_2 { count_of table.now * 8 ≤ length out.old }
-    ensures { Walked state.now table.now depth leader result pile.old pile.new marks.old marks.new out.old out.new }
+    requires leader_bound { leader < count_of state.now.held.table.now }
+    requires marks_len { length marks.old ≡ count_of state.now.held.table.now }
+    requires table_in_bounds { count_of state.now.held.table.now * 8 ≤ length pile.old }
+    requires table_in_bounds_2 { count_of state.now.held.table.now * 8 ≤ length out.old }
+    ensures { Walked state.now.last.now state.now.held.table.now depth leader result pile.old pile.new marks.old marks.new out.old out.new }
 {
-    let held = marks.len();
-    wire::parts::clear_bytes(marks, 0, held);
-    let h = crate::pile::put_new(leader, pile, 0, marks);
-    follow(state, table, n, depth, pile, h, marks, out)
+    let size = marks.len();
+    wire::parts::clear_bytes(marks, 0, size);
+    let mut on = Pile {
+        bytes: pile,
+        height: 0,
+        marks,
+    };
+    on.put_new(leader);
+    follow(state, depth, &mut on, out)
 }

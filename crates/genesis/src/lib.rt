@@ -10,11 +10,11 @@ use config::members::MEMBER;
 pub const RECORD: usize = 68;
 
 // The digest of a record.
-pub fn digest<'a>(known: &'a [u8]) -> &'a [u8]
+pub fn digest<'a>(known: &'a [u8]) -> &'a [u8; 32]
     requires { length known.now ≡ 68 }
     ensures { result.now ≡ record_digest known.now }
 {
-    &known[36..68]
+    known[36..68].try_into().unwrap()
 }
 
 // Whether a record is of round 0 and of this member.

@@ -1,6 +1,6 @@
 -- The bytes of the commit table and of the state, read as the definitions have them. Assumes nothing.
 use mathlib.Core.Path.{◌≡◌, refl, sym, ap, ◌∙◌}
-use mathlib.Core.Bool.{Bool, true, false, not, cond, ◌&&◌, ◌||◌}
+use mathlib.Core.Bool.{Bool, true, false, not, ◌&&◌, ◌||◌}
 use mathlib.Core.List.{List, [], ◌∷◌, map, append-nil}
 use Prim.Native.Nat.{ℕ, zero, suc, ◌+◌, ◌-◌, ◌*◌, ◌/◌, ◌≤◌, ◌<◌}
 use native.Mathlib.Nat.{le_of_suc-le-suc, not-suc-le-zero}
@@ -12,13 +12,11 @@ use lib.ListN.{length, get_or, take, drop, length-map, drop_of_length-le, length
 use lib.Seq.{drop-cons, take_at}
 use Rattle.wire.specs.Bytes.{part, alike}
 use Rattle.wire.specs.Items.{chunks, items, item_in, flat, has_part, first_of, all_of}
-use Rattle.std.specs.Prelude.{Option, Some, None, MatchOption}
+use Rattle.std.specs.Prelude.{Option, Some, None, MatchOption, IfSome, IsSome}
 use Rattle.std.specs.Option.{unwrap_or, is_some}
-use Rattle.std.specs.List.{list_any, position_or_len, range_with_len}
-use Rattle.std.proofs.lemmas.List.Sums.{prefix_len-le-length}
-use Rattle.std.proofs.lemmas.List.FromFn.{length-range_with_len}
-use mathlib.Core.Logic.{⊎_elim}
-use Rattle.wire.proofs.Laws.{length_part, part-all, less-or-not}
+use Rattle.std.proofs.lemmas.Option.{MatchOption-at_some}
+use Rattle.std.specs.List.{list_any, range_with_len}
+use Rattle.wire.proofs.Laws.{length_part, part-all}
 use Rattle.wire.proofs.Lists.{Sized, one, length-chunks, chunks-sized, chunks-flat, flat-chunks, length-flat, length-items, items-sized, all-at}
 use Rattle.table.specs.Rows.{count_of, shaped, rows_of, places, round_of, has_round_part}
 use Rattle.table.proofs.Laws.{is-long, few-rows, row_is, row_fits, row-length}
@@ -254,10 +252,24 @@ module _ (r : ℕ) (d : List ℕ) (ld : length d ≡ 32) where
       go ih true q e = let h = round-part r d x ld ∙ q in absurd (nothing-at (sym (rw (h, first_of) at e)))
       go ih false q e = let h = round-part r d x ld ∙ q in rw (q, find) (ap suc (ih (rw (h, first_of) at e)))
 
-pub find-is : (t : List ℕ) (n r : ℕ) (d : List ℕ) (f : Option ℕ) (x : ℕ) → length d ≡ 32 → n ≡ count_of t → f ≡ first_of (has_round_part r 6 d) (rows_of 1062 t) 0 → x ≡ unwrap_or f n → x ≡ find r d (held_of t)
+pub find-is : (t : List ℕ) (r : ℕ) (d : List ℕ) (f : Option ℕ) → length d ≡ 32 → f ≡ first_of (has_round_part r 6 d) (rows_of 1062 t) 0 → unwrap_or f (count_of t) ≡ find r d (held_of t)
 unfolding held_of rows_of
-find-is t n r d None x ld e g q = q ∙ e ∙ sym (length-items 1062 t 8 (count_of t)) ∙ find-nothing r d ld (rows_of 1062 t) 0 (sym g)
-find-is t n r d (Some i) x ld e g q = q ∙ find_first r d ld (rows_of 1062 t) 0 i (sym g) ∙ omega arith
+find-is t r d None ld g = sym (length-items 1062 t 8 (count_of t)) ∙ find-nothing r d ld (rows_of 1062 t) 0 (sym g)
+find-is t r d (Some i) ld g = find_first r d ld (rows_of 1062 t) 0 i (sym g) ∙ omega arith
+
+first-within : (test : List ℕ → Bool) (rs : List (List ℕ)) (j i : ℕ) → first_of test rs j ≡ Some i → i < j + length rs
+unfolding first_of
+first-within test [] j i e = absurd (nothing-at e)
+first-within test (x ∷ rs) j i e = go (first-within test rs (suc j) i) (test x) refl e
+  where
+    go : (first_of test rs (suc j) ≡ Some i → i < suc j + length rs) → (b : Bool) → test x ≡ b → first_of test (x ∷ rs) j ≡ Some i → i < j + length (x ∷ rs)
+    go ih true q e = let k = at-inj j i (rw (q, first_of) at e) in omega arith
+    go ih false q e = let k = ih (rw (q, first_of) at e) in omega arith
+
+pub find-within : (t : List ℕ) (test : List ℕ → Bool) (f : Option ℕ) → f ≡ first_of test (rows_of 1062 t) 0 → IfSome f (λ i. i < count_of t)
+unfolding rows_of
+find-within t test None g = tt
+find-within t test (Some i) g = let k = first-within test (rows_of 1062 t) 0 i (sym g) in let l = length-items 1062 t 8 (count_of t) in omega arith
 
 -- ---- a round held
 
@@ -288,30 +300,46 @@ pub held-end : (t : List ℕ) (i : ℕ) → count_of t ≤ i → drop i (held_of
 held-end t i h = drop_of_length-le (held_of t) {i = i} (rw (length-held t) h)
 
 -- the search for an origin and a round
-abbrev pub of_pair_at : List ℕ → ℕ → ℕ → ℕ → Bool
-of_pair_at t o r k = eqb (cert_at (held_of t) k).origin o && eqb (cert_at (held_of t) k).round r
+abbrev pub of_the_pair : ℕ → ℕ → List ℕ → Bool
+of_the_pair o r row = eqb (origin_in row) o && eqb (round_of row) r
 
-module _ (t : List ℕ) (o r : ℕ) where
-  pair-from : (n a : ℕ) → a + n ≡ count_of t → position_or_len (of_pair_at t o r) (range_with_len a n) ≡ pair_place o r (drop a (held_of t))
-  unfolding pair_place
-  pair-from zero a e = rw (held-end t a (omega arith))
-  pair-from (suc n) a e =
-      let i = pair-from n (a + 1) (omega arith) in
-      elim (of_pair_at t o r a) as (λ (b : Bool). cond (not b) (1 + position_or_len (of_pair_at t o r) (range_with_len (a + 1) n)) 0 ≡ elim b [ true ↦ 0 | false ↦ suc (pair_place o r (drop (a + 1) (held_of t))) ]) [ true ↦ refl | false ↦ omega arith ]
-      ∙ sym (ap (pair_place o r) (held-step t a (omega arith)))
+module _ (o r : ℕ) where
+  pair-first : (rs : List (List ℕ)) (j : ℕ) → unwrap_or (first_of (of_the_pair o r) rs j) (j + length rs) ≡ j + pair_place o r (map cert_of rs)
+  unfolding first_of pair_place cert_of
+  pair-first [] j = refl
+  pair-first (row ∷ rs) j =
+      let i = pair-first rs (suc j) in
+      let z : j + suc (length rs) ≡ suc j + length rs = omega arith in
+      elim (of_the_pair o r row) as (λ (b : Bool). unwrap_or (elim b [ true ↦ Some j | false ↦ first_of (of_the_pair o r) rs (suc j) ]) (j + suc (length rs)) ≡ j + elim b [ true ↦ 0 | false ↦ suc (pair_place o r (map cert_of rs)) ]) [ true ↦ omega arith | false ↦ rw z (i ∙ omega arith) ]
 
-  pub pair-is : (n x : ℕ) (f : Option ℕ) → n ≡ count_of t
-      → f ≡ cond (ltb (position_or_len (of_pair_at t o r) (range_with_len 0 n)) (length (range_with_len 0 n))) (Some (position_or_len (of_pair_at t o r) (range_with_len 0 n))) None
-      → x ≡ unwrap_or f n → x ≡ pair_place o r (held_of t)
-  pair-is n x f e g q =
-      let p : ℕ = position_or_len (of_pair_at t o r) (range_with_len 0 n) in
-      let l : ℕ = length (range_with_len 0 n) in
-      let i = pair-from n 0 (omega arith) in
-      let h = prefix_len-le-length (λ k. not (of_pair_at t o r k)) (range_with_len 0 n) in
-      let m = length-range_with_len 0 n in
-      q ∙ ap (λ (v : Option ℕ). unwrap_or v n) g
-      ∙ ⊎_elim (λ (w : p < l). let z = lt-ltb p l w in rw z) (λ (w : l ≤ p). let z = le-ltb p l w in rw z (omega arith)) (less-or-not p l)
-      ∙ i
+  pub pair-is : (t : List ℕ) (f : Option ℕ) → f ≡ first_of (of_the_pair o r) (rows_of 1062 t) 0 → unwrap_or f (count_of t) ≡ pair_place o r (held_of t)
+  unfolding held_of rows_of
+  pair-is t f g =
+      let n : 0 + length (rows_of 1062 t) ≡ count_of t = let l = length-items 1062 t 8 (count_of t) in omega arith in
+      ap (λ (v : Option ℕ). unwrap_or v (count_of t)) g ∙ ap (unwrap_or (first_of (of_the_pair o r) (rows_of 1062 t) 0)) (sym n) ∙ pair-first (rows_of 1062 t) 0 ∙ omega arith
+
+pub of-pair-at : (t : List ℕ) (i o r : ℕ) (b : Bool) (row : List ℕ) → shaped 1062 t ≡ true → i < count_of t → row ≡ item_in 1062 t 8 i → b ≡ of_the_pair o r row
+    → b ≡ (eqb (cert_at (held_of t) i).origin o && eqb (cert_at (held_of t) i).round r)
+unfolding cert_of
+of-pair-at t i o r b row s h e f = f ∙ ap (of_the_pair o r) e ∙ ap (λ (c : Cert). eqb c.origin o && eqb c.round r) (sym (place_is t i s h))
+
+-- the place that is told, where n are held; where none is told, the definition says n
+module _ (f : Option ℕ) (n p : ℕ) (e : unwrap_or f n ≡ p) where
+  pub placed : (m x : ℕ) → m ≡ n → x ≡ unwrap_or f m → x ≡ p
+  placed m x g q = q ∙ ap (unwrap_or f) g ∙ e
+
+  pub some-place : (x : ℕ) → f ≡ Some x → x ≡ p
+  some-place x g = sym (ap (λ (v : Option ℕ). unwrap_or v n) g) ∙ e
+
+  pub no-place : f ≡ None → n ≡ p
+  no-place g = sym (ap (λ (v : Option ℕ). unwrap_or v n) g) ∙ e
+
+pub place-within : (f : Option ℕ) (n x : ℕ) → IfSome f (λ i. i < n) → f ≡ Some x → x < n
+place-within f n x h e = MatchOption-at_some _ (λ i. i < n) x e h
+
+pub is-told : (f : Option ℕ) (n p : ℕ) → unwrap_or f n ≡ p → p < n → IsSome f
+is-told None n p e h = absurd (omega arith)
+is-told (Some x) n p e h = refl
 
 module _ (x o y r a b : ℕ) (e : x ≡ a) where
   pub other-origin : (x ≡ o → ⊥) → false ≡ (eqb a o && eqb b r)
@@ -337,9 +365,6 @@ module _ (t : List ℕ) (i : ℕ) (s : shaped 1062 t ≡ true) (h : i < count_of
   pub clash-same : (k : Bool) → not b ≡ false → k ≡ (eqb (cert_at (held_of t) i).origin o && eqb (cert_at (held_of t) i).round r)
       → not k ≡ (alike (cert_at (held_of t) i).digest d && not (eqb (cert_at (held_of t) i).origin o && eqb (cert_at (held_of t) i).round r))
   clash-same k q ek = let z : alike (cert_at (held_of t) i).digest d ≡ true = digests-are ∙ not-false _ q in sym (rw (z, ← ek))
-
-pub digest-reach : (t : List ℕ) (i : ℕ) → shaped 1062 t ≡ true → i < count_of t → (c : List ℕ) → c ≡ (cert_at (held_of t) i).digest → 0 + 32 ≤ length c
-digest-reach t i s h c e = let l = ap length e ∙ digest-length t i s h in omega arith
 
 abbrev pub clashing_at : List ℕ → ℕ → ℕ → List ℕ → ℕ → Bool
 clashing_at t o r d k = alike (cert_at (held_of t) k).digest d && not (eqb (cert_at (held_of t) k).origin o && eqb (cert_at (held_of t) k).round r)

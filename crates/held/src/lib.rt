@@ -7,4 +7,7 @@ pub mod whole; // the table's shape, and whether a digest clashes
 pub mod insert; // a certificate put in
 pub mod state; // last committed rounds
 
+pub use state::State;
+pub use whole::Held;
+
 pub const ROW: usize = 1062;

@@ -1,5 +1,5 @@
 // A row: round 4, member index 1, parent count 1, digest 32, parents 32 x 32. Bytes past the parents mean nothing.
-ghost use Rattle.std.specs.Prelude.{◌≡◌, ◌≤◌, length};
+ghost use Rattle.std.specs.Prelude.{◌≡◌, ◌≤◌, ◌<◌, length};
 ghost use Rattle.wire.specs.Items.{flat};
 ghost use Rattle.table.specs.Rows.{round_of};
 ghost use Rattle.held.specs.Rows.{origin_in, parent_count, digest_in, parents_in, lawful_row};
@@ -13,7 +13,8 @@ pub fn round(row: &[u8]) -> u32
 
 pub fn origin(row: &[u8]) -> usize
     requires { length row.now ≡ 1062 }
-    ensures { result ≡ origin_in row.now }
+    ensures value { result ≡ origin_in row.now }
+    ensures byte { result < 256 }
 {
     row[4] as usize
 }
@@ -25,11 +26,11 @@ pub fn parent_count(row: &[u8]) -> usize
     row[5] as usize
 }
 
-pub fn digest<'a>(row: &'a [u8]) -> &'a [u8]
+pub fn digest<'a>(row: &'a [u8]) -> &'a [u8; 32]
     requires { length row.now ≡ 1062 }
     ensures { result.now ≡ digest_in row.now }
 {
-    &row[6..38]
+    row[6..38].as_array::<32>().unwrap()
 }
 
 // The parents' digests, one behind the other.

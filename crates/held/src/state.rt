@@ -4,6 +4,16 @@ ghost use Prim.Native.Nat.{◌+◌, ◌*◌, ◌≤◌};
 ghost use Rattle.consensus.specs.Table.{highest};
 ghost use Rattle.held.specs.Rows.{lasts_of};
 
+use crate::whole::Held;
+
+// The last committed round of each member, and what is held.
+#[derive(Clone, Copy)]
+pub struct State<'s, 'h> {
+    pub last: &'s [u8],
+    pub held: Held<'h>,
+    pub ghost size: { length last.now ≡ held.members * 4 },
+}
+
 // The last committed round of the member at place o.
 pub fn last_of(state: &[u8], o: usize) -> u32
     requires { o * 4 + 4 ≤ length state.now }

@@ -1,4 +1,4 @@
--- A valid setup's members as the ordering is agreed on them, and what a lawful table gives to a reader. Assumes nothing.
+-- A valid setup's members as the ordering is agreed on them. Assumes nothing.
 use mathlib.Core.Path.{◌≡◌, refl, sym, ap, ◌∙◌}
 use mathlib.Core.Bool.{true}
 use mathlib.Core.List.{List, []}
@@ -7,26 +7,20 @@ use native.Mathlib.Omega.{arith}
 use lib.ListN.{length, get_or, drop, length-drop}
 use Rattle.wire.specs.Items.{items, item_in}
 use Rattle.wire.proofs.Lists.{item-is, item-fits, item-length}
-use Rattle.table.proofs.Laws.{is-long}
 use Rattle.config.specs.Members.{members_of, stake_in}
-use Rattle.config.specs.Committee.{valid_members, valid_setup, total}
+use Rattle.config.specs.Committee.{valid_setup, total}
 use Rattle.config.proofs.Laws.{valid, valid-setup, length-members}
 use Rattle.consensus.specs.Candidates.{edition1}
 use Rattle.consensus.specs.Leaders.{total_stake}
 use Rattle.consensus.proofs.Stakes.{stakes-at, stakes-many, stakes-total}
-use Rattle.held.specs.Rows.{held_shape}
-use Rattle.held.proofs.Laws.{lawful-shape}
 use Rattle.leaders.specs.Setup.{agreed_of}
 
 module _ (s : List ℕ) (v : valid_setup s ≡ true) where
   pub setup-long : 8 ≤ length s
   setup-long = (valid-setup s v).long
 
-  pub setup-some : 1 ≤ (length s - 8) / 69
-  setup-some = let l = length-drop 8 s in let o = (valid (drop 8 s) (valid-setup s v).members).one in omega arith
-
-  pub setup-members : (ms : List ℕ) → ms ≡ drop 8 s → valid_members ms ≡ true
-  setup-members ms e = rw e (valid-setup s v).members
+  pub setup-some : (n : ℕ) → n ≡ (length s - 8) / 69 → 1 ≤ n
+  setup-some n e = let l = length-drop 8 s in let o = (valid (drop 8 s) (valid-setup s v).members).one in omega arith
 
 pub agreed-many : (s : List ℕ) → length (agreed_of s).stakes ≡ (length s - 8) / 69
 unfolding agreed_of
@@ -60,8 +54,3 @@ module _ (s : List ℕ) (o : ℕ) (v : valid_setup s ≡ true) (h : o < (length 
       let p : item_in 69 s 8 o ≡ get_or (items 69 s 8 (length (drop 8 s) / 69)) o [] =
       item-is 69 s 8 ((length s - 8) / 69) all_fit o h ∙ ap (λ (n : ℕ). get_or (items 69 s 8 n) o []) (sym k) in
       f ∙ ap stake_in (e ∙ p) ∙ sym (stakes-at (members_of (drop 8 s)) o (omega arith))
-
--- ---- a lawful table
-
-pub held-long : (n : ℕ) (t : List ℕ) → held_shape n t ≡ true → 8 ≤ length t
-held-long n t h = is-long 1062 t (lawful-shape n t h)

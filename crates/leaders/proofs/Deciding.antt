@@ -14,14 +14,13 @@ use Rattle.consensus.specs.Leaders.{absent, decide, leader, present, stake_namin
 use Rattle.consensus.proofs.Hole.{hole_in}
 use Rattle.consensus.proofs.Leading.{leader-at, leader-off}
 use Rattle.consensus.proofs.Settling.{decide-absent, decide-alone, decide-early, decide-empty, decide-even, decide-hole, decide-old, decide-weak, decide-whole, lowest_round}
-use Rattle.held.specs.Rows.{held_of, held_shape, lasts_of}
+use Rattle.held.specs.Rows.{held_of, lasts_of}
 use Rattle.held.proofs.Laws.{length-held}
 use Rattle.leaders.specs.Setup.{agreed_of, kind_of}
 use Rattle.leaders.specs.Taking.{leader_at}
 use Rattle.std.specs.Prelude.{Ok, Err}
 use Rattle.refusal.specs.declared.Refusal.TheVariants.{HistoryMissing}
 use Rattle.leaders.proofs.Agreeing.{agreed-edition}
-use Rattle.leaders.proofs.Following.{digest-whole}
 
 module _ (s st t : List ℕ) (round : ℕ) where
   pub kind-even : (round % 2 ≡ 1 → ⊥) → Ok false ≡ kind_of (decide (agreed_of s) round (lasts_of st) (held_of t))
@@ -36,22 +35,22 @@ module _ (s st t : List ℕ) (round : ℕ) where
       kind-old h = sym (ap kind_of (decide-old (agreed_of s) round (lasts_of st) (held_of t) top et h))
 
       -- a leader that is not held is quiet, whatever C is
-      pub kind-absent : (p count : ℕ) → p ≡ leader_at (agreed_of s) (held_of t) (round - 3) → count ≡ count_of t → count ≤ p → Ok false ≡ kind_of (decide (agreed_of s) round (lasts_of st) (held_of t))
+      pub kind-absent : count_of t ≡ leader_at (agreed_of s) (held_of t) (round - 3) → Ok false ≡ kind_of (decide (agreed_of s) round (lasts_of st) (held_of t))
       unfolding leader_at
-      kind-absent p count ep ec h = go (ltb top (round - 3)) refl
+      kind-absent e = go (ltb top (round - 3)) refl
         where
           l : length (held_of t) ≡ count_of t
           l = length-held t
 
           off : leader (agreed_of s) (round - 3) (held_of t) ≡ absent
-          off = let e = l in leader-off (agreed_of s) (round - 3) (held_of t) p ep (omega arith)
+          off = let k = l in leader-off (agreed_of s) (round - 3) (held_of t) (count_of t) e (omega arith)
 
           go : (b : Bool) → ltb top (round - 3) ≡ b → Ok false ≡ kind_of (decide (agreed_of s) round (lasts_of st) (held_of t))
           go true q = sym (ap kind_of (decide-absent (agreed_of s) round (lasts_of st) (held_of t) top et odd five (ltb-true top (round - 3) q) off))
           go false q = kind-old (ltb-false top (round - 3) q)
 
-      module _ (up : top < round - 3) (p count : ℕ) (ep : p ≡ leader_at (agreed_of s) (held_of t) (round - 3)) (ec : count ≡ count_of t) where
-        module _ (held : p < count) where
+      module _ (up : top < round - 3) (p : ℕ) (ep : p ≡ leader_at (agreed_of s) (held_of t) (round - 3)) where
+        module _ (held : p < count_of t) where
           leads : leader (agreed_of s) (round - 3) (held_of t) ≡ present (cert_at (held_of t) p)
           unfolding leader_at
           leads = let l = length-held t in leader-at (agreed_of s) (round - 3) (held_of t) p ep (omega arith)
@@ -79,16 +78,19 @@ module _ (s st t : List ℕ) (round : ℕ) where
                   sym (ap kind_of (decide-weak (agreed_of s) round (lasts_of st) (held_of t) top et odd five up (cert_at (held_of t) p) leads (empty false some)
                   (leb-false (validity (total_stake (agreed_of s).stakes)) (stake_naming (agreed_of s).stakes (cert_at (held_of t) p).digest (of_round (round - 2) (held_of t))) (reaches false (not-true x h)))))
 
-              module _ (strong : not x ≡ false) (q : ℕ) (eq : q ≡ lowest_round (agreed_of s) (top + 2) (round - 4) (held_of t)) where
+              module _ (strong : not x ≡ false) where
                 support : validity (total_stake (agreed_of s).stakes) ≤ stake_naming (agreed_of s).stakes (cert_at (held_of t) p).digest (of_round (round - 2) (held_of t))
                 support = leb-true (validity (total_stake (agreed_of s).stakes)) (stake_naming (agreed_of s).stakes (cert_at (held_of t) p).digest (of_round (round - 2) (held_of t))) (reaches true (not-false x strong))
 
-                pub kind-alone : q ≡ 0 → Ok true ≡ kind_of (decide (agreed_of s) round (lasts_of st) (held_of t))
-                kind-alone h =
-                    let y = decide-alone (agreed_of s) round (lasts_of st) (held_of t) top et odd five up (cert_at (held_of t) p) leads (empty false some) support (agreed-edition s) q eq h in
+                pub kind-alone : 0 ≡ lowest_round (agreed_of s) (top + 2) (round - 4) (held_of t) → Ok true ≡ kind_of (decide (agreed_of s) round (lasts_of st) (held_of t))
+                kind-alone e =
+                    let y = decide-alone (agreed_of s) round (lasts_of st) (held_of t) top et odd five up (cert_at (held_of t) p) leads (empty false some) support (agreed-edition s) 0 e refl in
                     sym (ap kind_of y.1)
 
-                module _ (nz : q ≡ 0 → ⊥) (u : Bool) (eu : u ≡ not (hole_in (round - 3 - q) q (held_of t))) where
+                module _ (q : ℕ) (eq : q ≡ lowest_round (agreed_of s) (top + 2) (round - 4) (held_of t)) (above : top + 2 ≤ q) (u : Bool) (eu : u ≡ not (hole_in (round - 3 - q) q (held_of t))) where
+                  nz : q ≡ 0 → ⊥
+                  nz z = absurd (omega arith)
+
                   hole : (y : Bool) → u ≡ y → hole_in (round - 3 - q) q (held_of t) ≡ not y
                   hole y z = go (hole_in (round - 3 - q) q (held_of t)) refl
                     where
@@ -104,7 +106,3 @@ module _ (s st t : List ℕ) (round : ℕ) where
                   pub kind-hole : u ≡ false → Err HistoryMissing ≡ kind_of (decide (agreed_of s) round (lasts_of st) (held_of t))
                   kind-hole h =
                       sym (ap kind_of (decide-hole (agreed_of s) round (lasts_of st) (held_of t) top et odd five up (cert_at (held_of t) p) leads (empty false some) support (agreed-edition s) q eq nz (hole false h)))
-
--- the leader's digest, once its place is below the count
-pub leader-digest : (n count p : ℕ) (t d : List ℕ) → held_shape n t ≡ true → count ≡ count_of t → p < count → d ≡ (cert_at (held_of t) p).digest → length d ≡ 32
-leader-digest n count p t d s e h f = digest-whole n t p d s (omega arith) f

@@ -13,14 +13,11 @@ use Rattle.table.specs.Rows.{count_of}
 use Rattle.config.proofs.Laws.{both}
 use Rattle.consensus.specs.Table.{Cert, cert_at, of_round}
 use Rattle.consensus.specs.Leaders.{followed, named}
-use Rattle.held.specs.Rows.{held_of, held_shape}
-use Rattle.held.proofs.Laws.{digest-length, held-step, lawful-shape, length-held}
+use Rattle.held.specs.Rows.{held_of}
+use Rattle.held.proofs.Laws.{held-step, length-held}
 use Rattle.leaders.specs.Fronts.{Follows, Unmarked, front_of, is_front, marked_at}
 
 -- ---- one place
-
-pub digest-whole : (n : ℕ) (t : List ℕ) (i : ℕ) (x : List ℕ) → held_shape n t ≡ true → i < count_of t → x ≡ (cert_at (held_of t) i).digest → length x ≡ 32
-digest-whole n t i x s h e = ap length e ∙ digest-length t i (lawful-shape n t s) h
 
 module _ (held : List Cert) (upper i : ℕ) (marks : List ℕ) (x : ℕ) (e : x ≡ (cert_at held i).round) where
   pub mark-other : (x ≡ upper - 1 → ⊥) → marks ≡ marked_at held upper i marks

@@ -18,7 +18,7 @@ use Rattle.consensus.specs.Leaders.{Agreed, Leaders, leaders, leaders_from, link
 use Rattle.consensus.specs.Candidates.{edition1}
 use Rattle.consensus.proofs.Hole.{hole_in}
 use Rattle.consensus.proofs.Scan.{next_round}
-use Rattle.consensus.proofs.Leading.{Leading, lead-done, lead-pass, lead-room, lead-start, lead-take, next-floor, next_place, next-roof, next-round}
+use Rattle.consensus.proofs.Leading.{Leading, lead-done, lead-pass, lead-room, lead-start, lead-take, next_place, next-roof, next-round}
 use Rattle.consensus.proofs.Settling.{lead-lowest, lead-whole, lowest_round}
 use Rattle.held.specs.Rows.{held_of, held_shape, lasts_of}
 use Rattle.held.proofs.Laws.{length-held}
@@ -112,24 +112,28 @@ module _ {s st t : List ℕ} {opener n low first : ℕ} {rounds₀ marks rounds 
   pub joining-last : last < count_of t
   joining-last = let f = J.leads.fits in let l = length-held t in omega arith
 
-  module _ {q : ℕ} (e : q ≡ next_round (agreed_of s) low r (held_of t)) where
-    pub joining-done : q ≡ 0 → (rounds₁ : List ℕ) (x : ℕ) → Put rounds_of rounds₁ 0 x rounds₀ → Taken (agreed_of s) (lasts_of st) (held_of t) opener k rounds₁ rounds
-    joining-done z rounds₁ x P =
-        let m = J.many in
-        let f = J.most in
-        let l = length-held t in
-        record {
-          order =
-              lead-done (agreed_of s) (held_of t) low (first - 1) (whole s st t opener) r last J.before J.leads q e z
-              ∙ ap leaders (ap (map (cert_at (held_of t))) (sym J.taken) ∙ places-are (agreed_of s) (held_of t) (reverse (take k (rounds_of rounds))));
-          some = omega arith;
-          most = omega arith;
-          size = J.kept ∙ P.size;
-        }
+  pub joining-done : 0 ≡ next_round (agreed_of s) low r (held_of t) → (rounds₁ : List ℕ) (x : ℕ) → Put rounds_of rounds₁ 0 x rounds₀ → Taken (agreed_of s) (lasts_of st) (held_of t) opener k rounds₁ rounds
+  joining-done e rounds₁ x P =
+      let m = J.many in
+      let f = J.most in
+      let l = length-held t in
+      record {
+        order =
+            lead-done (agreed_of s) (held_of t) low (first - 1) (whole s st t opener) r last J.before J.leads 0 e refl
+            ∙ ap leaders (ap (map (cert_at (held_of t))) (sym J.taken) ∙ places-are (agreed_of s) (held_of t) (reverse (take k (rounds_of rounds))));
+        some = omega arith;
+        most = omega arith;
+        size = J.kept ∙ P.size;
+      }
 
-    module _ (nz : q ≡ 0 → ⊥) where
+  -- it is found, and not below low
+  module _ {q : ℕ} (e : q ≡ next_round (agreed_of s) low r (held_of t)) where
+    module _ (above : low ≤ q) where
+      nz : q ≡ 0 → ⊥
+      nz z = let w = J.leads.two in absurd (omega arith)
+
       pub joining-two : 2 ≤ q
-      joining-two = let f = next-floor (agreed_of s) (held_of t) low r q e nz in let w = J.leads.two in omega arith
+      joining-two = let w = J.leads.two in omega arith
 
       pub joining-falls : q - 2 < r
       joining-falls = let f = joining-two in let u = next-roof (agreed_of s) (held_of t) low r q e in omega arith

@@ -1,10 +1,10 @@
 -- The front of a link test: its marks looked through place by place, and followed one round lower. Assumes nothing.
 use mathlib.Core.Path.{◌≡◌, refl, sym, ap, ◌∙◌}
-use mathlib.Core.Bool.{Bool, true, false, not, ◌||◌}
+use mathlib.Core.Bool.{Bool, true, false, ◌&&◌, ◌||◌}
 use mathlib.Core.List.{List, [], ◌∷◌}
 use Prim.Native.Nat.{ℕ, suc, ◌+◌, ◌<◌}
 use native.Mathlib.Omega.{arith}
-use borrow.Author.Tests.{eq-eqb, ne_eqb, not-true, not-false}
+use borrow.Author.Tests.{eq-eqb, ne_eqb}
 use lib.Dec.{eqb}
 use lib.ListN.{length, get_or}
 use Rattle.std.specs.List.{list_any, range_with_len}
@@ -28,40 +28,24 @@ module _ (r m : ℕ) (c : Cert) where
   unfolding is_front
   front-marked h x e = sym (rw (ne_eqb m 0 h, ← e))
 
-module _ (d : List ℕ) (r m : ℕ) (c : Cert) (b : Bool) (e : b ≡ is_front r m c) where
-  pub has-not : not b ≡ true → false ≡ has_digest d (front_of r (m ∷ []) (c ∷ []))
+module _ (d : List ℕ) (r m : ℕ) (c : Cert) where
+  has-is : (is_front r m c && alike c.digest d) ≡ has_digest d (front_of r (m ∷ []) (c ∷ []))
   unfolding front_of has_digest
-  has-not h = let t : is_front r m c ≡ false = sym e ∙ not-true b h in rw (t, front_of)
-
-  pub names-not : not b ≡ true → false ≡ named d (front_of r (m ∷ []) (c ∷ []))
-  unfolding front_of named
-  names-not h = let t : is_front r m c ≡ false = sym e ∙ not-true b h in rw (t, front_of)
-
-  pub names-is : not b ≡ false → (y : Bool) → y ≡ is_in d c.parents → y ≡ named d (front_of r (m ∷ []) (c ∷ []))
-  unfolding front_of named
-  names-is h y f = let t : is_front r m c ≡ true = sym e ∙ not-false b h in rw (t, front_of) (go (is_in d c.parents) refl)
+  has-is = go (is_front r m c) refl (alike c.digest d) refl
     where
-      go : (k : Bool) → is_in d c.parents ≡ k → y ≡ named d (c ∷ [])
-      go true q = rw (q, named) (f ∙ q)
-      go false q = rw (q, named) (f ∙ q)
+      go : (b : Bool) → is_front r m c ≡ b → (k : Bool) → alike c.digest d ≡ k → (is_front r m c && alike c.digest d) ≡ has_digest d (front_of r (m ∷ []) (c ∷ []))
+      go true t true q = rw (t, front_of) (rw (q, has_digest))
+      go true t false q = rw (t, front_of) (rw (q, has_digest))
+      go false t k q = rw (t, front_of)
 
-  has-is : not b ≡ false → (x : List ℕ) (y : Bool) → length d ≡ 32 → length c.digest ≡ 32 → x ≡ c.digest → y ≡ alike (part x 0 32) (part d 0 32)
-      → y ≡ has_digest d (front_of r (m ∷ []) (c ∷ []))
-  unfolding front_of has_digest
-  has-is h x y ld lc f g =
-      let t : is_front r m c ≡ true = sym e ∙ not-false b h in
-      let p : part x 0 32 ≡ c.digest = ap (λ (v : List ℕ). part v 0 32) f ∙ part-all c.digest 32 lc in
-      let z : y ≡ alike c.digest d = g ∙ ap (λ (v : List ℕ). alike v (part d 0 32)) p ∙ ap (alike c.digest) (part-all d 32 ld) in
-      rw (t, front_of) (go z (alike c.digest d) refl)
+  names-is : (is_front r m c && is_in d c.parents) ≡ named d (front_of r (m ∷ []) (c ∷ []))
+  unfolding front_of named
+  names-is = go (is_front r m c) refl (is_in d c.parents) refl
     where
-      go : y ≡ alike c.digest d → (k : Bool) → alike c.digest d ≡ k → y ≡ has_digest d (c ∷ [])
-      go z true q = rw (q, has_digest) (z ∙ q)
-      go z false q = rw (q, has_digest) (z ∙ q)
-
-pub has-digest-is : (t : List ℕ) (i : ℕ) → shaped 1062 t ≡ true → i < count_of t → (d x marks : List ℕ) (r : ℕ) (b y : Bool) → length d ≡ 32
-    → b ≡ is_front r (get_or marks i 0) (cert_at (held_of t) i) → not b ≡ false → x ≡ (cert_at (held_of t) i).digest → y ≡ alike (part x 0 32) (part d 0 32)
-    → y ≡ has_digest d (front_of r (get_or marks i 0 ∷ []) (cert_at (held_of t) i ∷ []))
-has-digest-is t i s h d x marks r b y ld e g f k = has-is d r (get_or marks i 0) (cert_at (held_of t) i) b e g x y ld (digest-length t i s h) f k
+      go : (b : Bool) → is_front r m c ≡ b → (k : Bool) → is_in d c.parents ≡ k → (is_front r m c && is_in d c.parents) ≡ named d (front_of r (m ∷ []) (c ∷ []))
+      go true t true q = rw (t, front_of) (rw (q, named))
+      go true t false q = rw (t, front_of) (rw (q, named))
+      go false t k q = rw (t, front_of)
 
 -- ---- all places: a test P of the front, which holds where it holds of one of the front
 
@@ -103,13 +87,25 @@ named-one d c cs = go (is_in d c.parents) refl
     go true t = rw (t, named)
     go false t = rw (t, named)
 
-module _ (t marks d : List ℕ) (r : ℕ) (b : Bool) (e : length marks ≡ count_of t) where
-  pub has-any : b ≡ list_any (λ i. has_digest d (front_of r (get_or marks i 0 ∷ []) (cert_at (held_of t) i ∷ []))) (range_with_len 0 (length marks)) → b ≡ has_digest d (front_of r marks (held_of t))
-  unfolding has_digest
-  has-any f =
-      f ∙ any_front (has_digest d) refl (has_one d) r (λ i. has_digest d (front_of r (get_or marks i 0 ∷ []) (cert_at (held_of t) i ∷ []))) marks (held_of t) 0 (e ∙ sym (length-held t)) (λ k j q l. let z : j ≡ k = omega arith in rw z)
+-- what is asked of the place of a mark
+abbrev pub has_at : List ℕ → List ℕ → List ℕ → ℕ → ℕ → Bool
+has_at t marks d r i = is_front r (get_or marks i 0) (cert_at (held_of t) i) && alike (part (cert_at (held_of t) i).digest 0 32) (part d 0 32)
 
-  pub named-any : b ≡ list_any (λ i. named d (front_of r (get_or marks i 0 ∷ []) (cert_at (held_of t) i ∷ []))) (range_with_len 0 (length marks)) → b ≡ named d (front_of r marks (held_of t))
+abbrev pub named_at : List ℕ → List ℕ → List ℕ → ℕ → ℕ → Bool
+named_at t marks d r i = is_front r (get_or marks i 0) (cert_at (held_of t) i) && is_in d (cert_at (held_of t) i).parents
+
+module _ (t marks d : List ℕ) (r : ℕ) (b : Bool) (e : length marks ≡ count_of t) where
+  pub has-any : shaped 1062 t ≡ true → length d ≡ 32 → b ≡ list_any (has_at t marks d r) (range_with_len 0 (length marks)) → b ≡ has_digest d (front_of r marks (held_of t))
+  unfolding has_digest
+  has-any s ld f =
+      f ∙ any_front (has_digest d) refl (has_one d) r (has_at t marks d r) marks (held_of t) 0 (e ∙ sym (length-held t))
+      (λ k j q l.
+      let z : j ≡ k = omega arith in
+      let p : part (cert_at (held_of t) k).digest 0 32 ≡ (cert_at (held_of t) k).digest = part-all (cert_at (held_of t) k).digest 32 (digest-length t k s (omega arith)) in
+      rw (z, p, part-all d 32 ld) (has-is d r (get_or marks k 0) (cert_at (held_of t) k)))
+
+  pub named-any : b ≡ list_any (named_at t marks d r) (range_with_len 0 (length marks)) → b ≡ named d (front_of r marks (held_of t))
   unfolding named
   named-any f =
-      f ∙ any_front (named d) refl (named-one d) r (λ i. named d (front_of r (get_or marks i 0 ∷ []) (cert_at (held_of t) i ∷ []))) marks (held_of t) 0 (e ∙ sym (length-held t)) (λ k j q l. let z : j ≡ k = omega arith in rw z)
+      f ∙ any_front (named d) refl (named-one d) r (named_at t marks d r) marks (held_of t) 0 (e ∙ sym (length-held t))
+      (λ k j q l. let z : j ≡ k = omega arith in rw z (names-is d r (get_or marks k 0) (cert_at (held_of t) k)))

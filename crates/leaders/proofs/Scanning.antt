@@ -1,18 +1,20 @@
 -- Leaders by their rounds, each found by one scan of the table. Assumes nothing.
 use mathlib.Core.Path.{◌≡◌, refl, sym, ap, ◌∙◌}
-use mathlib.Core.Bool.{Bool, true, false, ◌&&◌}
+use mathlib.Core.Bool.{Bool, true, false, not, cond, ◌&&◌}
 use mathlib.Core.List.{List, [], ◌∷◌}
 use Prim.Native.Nat.{ℕ, suc, ◌+◌, ◌-◌, ◌/◌, ◌%◌, ◌≤◌, ◌<◌, max, min}
 use native.Mathlib.Omega.{arith}
-use borrow.Author.Tests.{eq-eqb, ne_eqb, le-leb, lt-leb}
+use borrow.Author.Tests.{eq-eqb, ne_eqb, le-leb, lt-leb, not-true, not-false, eqb-true, eqb-false}
 use lib.Dec.{eqb, leb}
 use lib.ListN.{length, get_or}
-use Rattle.std.specs.List.{fold, range_with_len}
+use Rattle.std.specs.Prelude.{Option, Some, None, IfSome, unwrap_or}
+use Rattle.std.specs.List.{cons_option, filter_map, fold, range_with_len, reduce}
+use Rattle.wire.proofs.Laws.{true-not-false}
 use Rattle.table.specs.Rows.{count_of}
 use Rattle.config.specs.Committee.{leader_place}
 use Rattle.consensus.specs.Table.{Cert, cert_at, none, pair_place}
 use Rattle.consensus.specs.Leaders.{Agreed}
-use Rattle.consensus.proofs.Scan.{candidate, next_round}
+use Rattle.consensus.proofs.Scan.{Candidate, candidate, candidate-is, candidate-when, next_round}
 use Rattle.consensus.proofs.Settling.{lower_of, lower-none, none-lower, lower-both, lower-assoc, lowest_round}
 use Rattle.held.specs.Rows.{held_of}
 use Rattle.held.proofs.Laws.{length-held}
@@ -20,11 +22,14 @@ use Rattle.leaders.specs.Setup.{agreed_of}
 use Rattle.leaders.specs.Taking.{leader_at}
 use Rattle.leaders.proofs.Agreeing.{agreed-many}
 
+-- whose turn it is
+pub turn-is : (s : List ℕ) (round n o : ℕ) → n ≡ (length s - 8) / 69 → o ≡ leader_place n round → o ≡ leader_place (length (agreed_of s).stakes) round
+turn-is s round n o m e = e ∙ ap (λ (k : ℕ). leader_place k round) (m ∙ sym (agreed-many s))
+
 -- a round's leader
-pub leader-is : (s t : List ℕ) (round o p : ℕ) → o ≡ leader_place ((length s - 8) / 69) round → p ≡ pair_place o round (held_of t) → p ≡ leader_at (agreed_of s) (held_of t) round
+pub leader-is : (a : Agreed) (held : List Cert) (round o n : ℕ) (f : Option ℕ) → o ≡ leader_place (length a.stakes) round → unwrap_or f n ≡ pair_place o round held → unwrap_or f n ≡ leader_at a held round
 unfolding leader_at
-leader-is s t round o p e f =
-    f ∙ ap (λ (k : ℕ). pair_place k round (held_of t)) (e ∙ ap (λ (n : ℕ). leader_place n round) (sym (agreed-many s)))
+leader-is a held round o n f e g = g ∙ ap (λ (k : ℕ). pair_place k round held) e
 
 -- ---- whether one is a candidate, test by test
 
@@ -68,102 +73,160 @@ module _ (s : List ℕ) (low r x : ℕ) (c : Cert) (ex : x ≡ c.round) where
           let t : second ≡ false = ne_eqb (c.round % 2) (r % 2) (λ z. h (ap (λ (k : ℕ). k % 2) ex ∙ z)) in
           sym (rw t (falls-2 leads (leb low c.round && leb c.round r)))
 
-      pub leads-or-not : x % 2 ≡ r % 2 → (o l : ℕ) → o ≡ c.origin → l ≡ leader_place ((length s - 8) / 69) x → eqb o l ≡ candidate (agreed_of s) low r c
+      pub leads-or-not : x % 2 ≡ r % 2 → (o l : ℕ) → o ≡ c.origin → l ≡ leader_place (length (agreed_of s).stakes) x → eqb o l ≡ candidate (agreed_of s) low r c
       unfolding candidate
       leads-or-not h o l eo el =
-          let p : l ≡ leader_place (length (agreed_of s).stakes) c.round =
-          el ∙ ap (λ (n : ℕ). leader_place n x) (sym (agreed-many s)) ∙ ap (leader_place (length (agreed_of s).stakes)) ex in
+          let p : l ≡ leader_place (length (agreed_of s).stakes) c.round = el ∙ ap (leader_place (length (agreed_of s).stakes)) ex in
           let t₁ : leb low c.round ≡ true = le-leb low c.round (omega arith) in
           let t₂ : leb c.round r ≡ true = le-leb c.round r (omega arith) in
           let t₃ : second ≡ true = eq-eqb (c.round % 2) (r % 2) (ap (λ (k : ℕ). k % 2) (sym ex) ∙ h) in
           sym (rw (t₁, t₂, t₃, ← eo, ← p) (all-but-1 (eqb o l)))
 
+-- ---- the rounds of the candidates
+
+abbrev pub round_in : Agreed → ℕ → ℕ → Cert → Option ℕ
+round_in a low r c = cond (candidate a low r c) (Some c.round) None
+
 module _ (a : Agreed) (low r : ℕ) (c : Cert) (b : Bool) (e : b ≡ candidate a low r c) where
-  pub its-round : b ≡ true → (x : ℕ) → x ≡ c.round → x ≡ next_round a low r (c ∷ [])
-  unfolding next_round
-  its-round h x f = rw (sym e ∙ h, next_round) (omega arith)
+  pub its-round : not b ≡ false → (x : ℕ) → x ≡ c.round → Some x ≡ cond (candidate a low r c) (Some c.round) None
+  its-round h x f = let t : candidate a low r c ≡ true = sym e ∙ not-false b h in rw (t, f)
 
-  pub no-round : b ≡ false → 0 ≡ next_round a low r (c ∷ [])
-  unfolding next_round
-  no-round h = rw (sym e ∙ h, next_round)
+  pub no-round : not b ≡ true → None ≡ cond (candidate a low r c) (Some c.round) None
+  no-round h = let t : candidate a low r c ≡ false = sym e ∙ not-true b h in rw t
 
--- ---- the lower of two, where 0 is none
-
-module _ (x y : ℕ) where
-  pub only-second : x ≡ 0 → y ≡ lower_of x y
-  only-second e = rw e (sym (lower-none y))
-
-  module _ (n : x ≡ 0 → ⊥) where
-    pub only-first : y ≡ 0 → x ≡ lower_of x y
-    only-first e = rw e (sym (none-lower x))
-
-    module _ (m : y ≡ 0 → ⊥) where
-      pub first-lower : x < y → x ≡ lower_of x y
-      first-lower h = let z : min x y ≡ x = omega arith in sym (lower-both x y n m ∙ z)
-
-      pub second-lower : y ≤ x → y ≡ lower_of x y
-      second-lower h = let z : min x y ≡ y = omega arith in sym (lower-both x y n m ∙ z)
-
--- ---- a fold over the places held is one over what is held
-
-fold_places : {A : Type 0} (h : ℕ → A → ℕ) (d : A) (f : ℕ → A) (xs : List A) (i m : ℕ) → ((k j : ℕ) → j ≡ i + k → k < length xs → f j ≡ get_or xs k d)
-    → fold (λ b j. h b (f j)) m (range_with_len i (length xs)) ≡ fold h m xs
-fold_places h d f [] i m e = refl
-fold_places h d f (x ∷ xs) i m e =
+-- over the places held, or over what is held
+filter_places : {A : Type 0} (g : A → Option ℕ) (d : A) (f : ℕ → A) (xs : List A) (i : ℕ) → ((k j : ℕ) → j ≡ i + k → k < length xs → f j ≡ get_or xs k d)
+    → filter_map (λ j. g (f j)) (range_with_len i (length xs)) ≡ filter_map g xs
+filter_places g d f [] i e = refl
+filter_places g d f (x ∷ xs) i e =
     let z : f i ≡ x = e 0 i (omega arith) (omega arith) in
     let n : (k j : ℕ) → j ≡ i + 1 + k → k < length xs → f j ≡ get_or xs k d = λ k j q l. e (suc k) j (omega arith) (omega arith) in
-    fold_places h d f xs (i + 1) (h m (f i)) n ∙ ap (λ y. fold h (h m y) xs) z
+    ap (λ y. cons_option (g y) (filter_map (λ j. g (f j)) (range_with_len (i + 1) (length xs)))) z ∙ ap (cons_option (g x)) (filter_places g d f xs (i + 1) n)
 
-fold_held : (h : ℕ → Cert → ℕ) (t : List ℕ) (n : ℕ) → n ≡ count_of t → fold (λ m i. h m (cert_at (held_of t) i)) 0 (range_with_len 0 n) ≡ fold h 0 (held_of t)
+filter_held : (g : Cert → Option ℕ) (t : List ℕ) (n : ℕ) → n ≡ count_of t → filter_map (λ i. g (cert_at (held_of t) i)) (range_with_len 0 n) ≡ filter_map g (held_of t)
 unfolding cert_at
-fold_held h t n e =
-    ap (λ k. fold (λ m i. h m (cert_at (held_of t) i)) 0 (range_with_len 0 k)) (e ∙ sym (length-held t)) ∙ fold_places h none (cert_at (held_of t)) (held_of t) 0 0 (λ k j q l. let z : j ≡ k = omega arith in rw z)
+filter_held g t n e =
+    ap (λ k. filter_map (λ i. g (cert_at (held_of t) i)) (range_with_len 0 k)) (e ∙ sym (length-held t)) ∙ filter_places g none (cert_at (held_of t)) (held_of t) 0 (λ k j q l. let z : j ≡ k = omega arith in rw z)
+
+-- ---- none of them is below low, whichever of two is picked
+
+module _ (a : Agreed) (low r : ℕ) (h : ℕ → ℕ → ℕ) (p : (x y : ℕ) → low ≤ x → low ≤ y → low ≤ h x y) where
+  fold-floor : (cs : List Cert) (m : ℕ) → low ≤ m → low ≤ fold h m (filter_map (round_in a low r) cs)
+  fold-floor [] m l = l
+  fold-floor (c ∷ cs) m l = go (λ n k. fold-floor cs n k) (candidate a low r c) refl
+    where
+      go : ((n : ℕ) → low ≤ n → low ≤ fold h n (filter_map (round_in a low r) cs)) → (b : Bool) → candidate a low r c ≡ b → low ≤ fold h m (filter_map (round_in a low r) (c ∷ cs))
+      go ih true t = let k = candidate-is a low r c t in rw t (ih (h m c.round) (p m c.round l k.floor))
+      go ih false t = rw t (ih m l)
+
+  floor-of : (cs : List Cert) (f : Option ℕ) → f ≡ reduce h (filter_map (round_in a low r) cs) → IfSome f (λ q. low ≤ q)
+  floor-of [] f e = rw e tt
+  floor-of (c ∷ cs) f e = go (λ g q. floor-of cs g q) (candidate a low r c) refl
+    where
+      go : ((g : Option ℕ) → g ≡ reduce h (filter_map (round_in a low r) cs) → IfSome g (λ q. low ≤ q)) → (b : Bool) → candidate a low r c ≡ b → IfSome f (λ q. low ≤ q)
+      go ih true t = let k = candidate-is a low r c t in let z = rw t at e in rw z (fold-floor cs c.round k.floor)
+      go ih false t = ih f (rw t at e)
+
+max-floor : (low x y : ℕ) → low ≤ x → low ≤ y → low ≤ max x y
+max-floor low x y h k = omega arith
+
+min-floor : (low x y : ℕ) → low ≤ x → low ≤ y → low ≤ min x y
+min-floor low x y h k = omega arith
 
 -- ---- the highest of all
 
-next-cons : (a : Agreed) (low r : ℕ) (c : Cert) (cs : List Cert) → next_round a low r (c ∷ cs) ≡ max (next_round a low r (c ∷ [])) (next_round a low r cs)
-unfolding next_round
-next-cons a low r c cs = go (candidate a low r c) refl
-  where
-    go : (b : Bool) → candidate a low r c ≡ b → next_round a low r (c ∷ cs) ≡ max (next_round a low r (c ∷ [])) (next_round a low r cs)
-    go true t = rw (t, next_round) (omega arith)
-    go false t = rw (t, next_round) (omega arith)
+module _ (a : Agreed) (low r : ℕ) where
+  next_max : (cs : List Cert) (m : ℕ) → fold max m (filter_map (round_in a low r) cs) ≡ max m (next_round a low r cs)
+  unfolding next_round
+  next_max [] m = omega arith
+  next_max (c ∷ cs) m = go (λ n. next_max cs n) (candidate a low r c) refl
+    where
+      go : ((n : ℕ) → fold max n (filter_map (round_in a low r) cs) ≡ max n (next_round a low r cs)) → (b : Bool) → candidate a low r c ≡ b
+          → fold max m (filter_map (round_in a low r) (c ∷ cs)) ≡ max m (next_round a low r (c ∷ cs))
+      go ih true t = let i = ih (max m c.round) in rw (t, next_round) (omega arith)
+      go ih false t = let i = ih m in rw (t, next_round) i
 
-next_max : (a : Agreed) (low r m : ℕ) (cs : List Cert) → fold (λ x c. max x (next_round a low r (c ∷ []))) m cs ≡ max m (next_round a low r cs)
-unfolding next_round
-next_max a low r m [] = omega arith
-next_max a low r m (c ∷ cs) =
-    let i = next_max a low r (max m (next_round a low r (c ∷ []))) cs in
-    let e = next-cons a low r c cs in
-    omega arith
-
-pub next-all : (a : Agreed) (t : List ℕ) (low r n x : ℕ) → n ≡ count_of t → x ≡ fold (λ m i. max m (next_round a low r (cert_at (held_of t) i ∷ []))) 0 (range_with_len 0 n) → x ≡ next_round a low r (held_of t)
-next-all a t low r n x e f =
-    let p = fold_held (λ m c. max m (next_round a low r (c ∷ []))) t n e in
-    let q = next_max a low r 0 (held_of t) in
-    omega arith
+  next-all : (cs : List Cert) (f : Option ℕ) → f ≡ reduce max (filter_map (round_in a low r) cs) → unwrap_or f 0 ≡ next_round a low r cs
+  unfolding next_round
+  next-all [] f e = rw e
+  next-all (c ∷ cs) f e = go (λ g q. next-all cs g q) (candidate a low r c) refl
+    where
+      go : ((g : Option ℕ) → g ≡ reduce max (filter_map (round_in a low r) cs) → unwrap_or g 0 ≡ next_round a low r cs) → (b : Bool) → candidate a low r c ≡ b
+          → unwrap_or f 0 ≡ next_round a low r (c ∷ cs)
+      go ih true t = let z = rw t at e in let i = next_max cs c.round in rw (z, t, next_round) i
+      go ih false t = let i = ih f (rw t at e) in rw (t, next_round) i
 
 -- ---- the lowest of all
 
-lowest-cons : (a : Agreed) (low r : ℕ) (c : Cert) (cs : List Cert) → lowest_round a low r (c ∷ cs) ≡ lower_of (next_round a low r (c ∷ [])) (lowest_round a low r cs)
-unfolding next_round lowest_round
-lowest-cons a low r c cs = go (candidate a low r c) refl
+module _ (a : Agreed) (low r : ℕ) (some : 1 ≤ low) where
+  lowest_min : (cs : List Cert) (m : ℕ) → 1 ≤ m → fold min m (filter_map (round_in a low r) cs) ≡ lower_of m (lowest_round a low r cs)
+  unfolding lowest_round
+  lowest_min [] m l = sym (none-lower m)
+  lowest_min (c ∷ cs) m l = go (λ n k. lowest_min cs n k) (candidate a low r c) refl
+    where
+      go : ((n : ℕ) → 1 ≤ n → fold min n (filter_map (round_in a low r) cs) ≡ lower_of n (lowest_round a low r cs)) → (b : Bool) → candidate a low r c ≡ b
+          → fold min m (filter_map (round_in a low r) (c ∷ cs)) ≡ lower_of m (lowest_round a low r (c ∷ cs))
+      go ih true t =
+          let k = (candidate-is a low r c t).floor in
+          let i = ih (min m c.round) (omega arith) in
+          let z = lower-both m c.round (λ q. absurd (omega arith)) (λ q. absurd (omega arith)) in
+          rw (t, lowest_round) (i ∙ ap (λ (v : ℕ). lower_of v (lowest_round a low r cs)) (sym z) ∙ lower-assoc m c.round (lowest_round a low r cs))
+      go ih false t = let i = ih m l in rw (t, lowest_round) i
+
+  lowest-all : (cs : List Cert) (f : Option ℕ) → f ≡ reduce min (filter_map (round_in a low r) cs) → unwrap_or f 0 ≡ lowest_round a low r cs
+  unfolding lowest_round
+  lowest-all [] f e = rw e
+  lowest-all (c ∷ cs) f e = go (λ g q. lowest-all cs g q) (candidate a low r c) refl
+    where
+      go : ((g : Option ℕ) → g ≡ reduce min (filter_map (round_in a low r) cs) → unwrap_or g 0 ≡ lowest_round a low r cs) → (b : Bool) → candidate a low r c ≡ b
+          → unwrap_or f 0 ≡ lowest_round a low r (c ∷ cs)
+      go ih true t =
+          let k = (candidate-is a low r c t).floor in
+          let z = rw t at e in
+          let i = lowest_min cs c.round (omega arith) in
+          rw (z, t, lowest_round) i
+      go ih false t = let i = ih f (rw t at e) in rw (t, lowest_round) i
+
+-- a round 0 is none, so it is the lowest from 1 up
+lowest_from_one : (a : Agreed) (low r : ℕ) (cs : List Cert) → lowest_round a (max low 1) r cs ≡ lowest_round a low r cs
+unfolding lowest_round
+lowest_from_one a low r [] = refl
+lowest_from_one a low r (c ∷ cs) = go (lowest_from_one a low r cs) (eqb c.round 0) refl (candidate a (max low 1) r c) refl (candidate a low r c) refl
   where
-    go : (b : Bool) → candidate a low r c ≡ b → lowest_round a low r (c ∷ cs) ≡ lower_of (next_round a low r (c ∷ [])) (lowest_round a low r cs)
-    go true t =
-        let z : max c.round 0 ≡ c.round = omega arith in
-        rw (t, next_round, lowest_round) (ap (λ (k : ℕ). lower_of k (lowest_round a low r cs)) (sym z))
-    go false t = rw (t, next_round, lowest_round) (sym (lower-none (lowest_round a low r cs)))
+    R : ℕ
+    R = lowest_round a low r cs
 
-lowest_lower : (a : Agreed) (low r m : ℕ) (cs : List Cert) → fold (λ x c. lower_of x (next_round a low r (c ∷ []))) m cs ≡ lower_of m (lowest_round a low r cs)
-unfolding next_round lowest_round
-lowest_lower a low r m [] = sym (none-lower m)
-lowest_lower a low r m (c ∷ cs) =
-    lowest_lower a low r (lower_of m (next_round a low r (c ∷ []))) cs
-    ∙ lower-assoc m (next_round a low r (c ∷ [])) (lowest_round a low r cs)
-    ∙ ap (lower_of m) (sym (lowest-cons a low r c cs))
+    raised : (c.round ≡ 0 → ⊥) → Candidate a low r c → Candidate a (max low 1) r c
+    raised n k = record { leads = k.leads; even = k.even; floor = let f = k.floor in omega arith; roof = k.roof }
 
-pub lowest-all : (a : Agreed) (t : List ℕ) (low r n x : ℕ) → n ≡ count_of t → x ≡ fold (λ m i. lower_of m (next_round a low r (cert_at (held_of t) i ∷ []))) 0 (range_with_len 0 n)
-    → x ≡ lowest_round a low r (held_of t)
-lowest-all a t low r n x e f =
-    f ∙ fold_held (λ m c. lower_of m (next_round a low r (c ∷ []))) t n e ∙ lowest_lower a low r 0 (held_of t) ∙ lower-none (lowest_round a low r (held_of t))
+    lowered : Candidate a (max low 1) r c → Candidate a low r c
+    lowered k = record { leads = k.leads; even = k.even; floor = let f = k.floor in omega arith; roof = k.roof }
+
+    go : lowest_round a (max low 1) r cs ≡ R → (z : Bool) → eqb c.round 0 ≡ z → (b : Bool) → candidate a (max low 1) r c ≡ b → (d : Bool) → candidate a low r c ≡ d
+        → lowest_round a (max low 1) r (c ∷ cs) ≡ lowest_round a low r (c ∷ cs)
+    go ih z q true t true u = rw (t, u, lowest_round) (ap (lower_of c.round) ih)
+    go ih z q true t false u = absurd (true-not-false (sym (candidate-when a low r c (lowered (candidate-is a (max low 1) r c t))) ∙ u))
+    go ih true q false t true u = rw (t, u, lowest_round) (ih ∙ sym (ap (λ (v : ℕ). lower_of v R) (eqb-true c.round 0 q) ∙ lower-none R))
+    go ih false q false t true u =
+        absurd (true-not-false (sym (candidate-when a (max low 1) r c (raised (eqb-false c.round 0 q) (candidate-is a low r c u))) ∙ t))
+    go ih z q false t false u = rw (t, u, lowest_round) ih
+
+floor_below : (low m : ℕ) (f : Option ℕ) → low ≤ m → IfSome f (λ q. m ≤ q) → IfSome f (λ q. low ≤ q)
+floor_below low m None l h = tt
+floor_below low m (Some q) l h = omega arith
+
+-- ---- over the places held
+
+pub next-found : (a : Agreed) (t : List ℕ) (low r n : ℕ) (f : Option ℕ) → n ≡ count_of t → f ≡ reduce max (filter_map (λ i. round_in a low r (cert_at (held_of t) i)) (range_with_len 0 n))
+    → (unwrap_or f 0 ≡ next_round a low r (held_of t)) × IfSome f (λ q. low ≤ q)
+next-found a t low r n f e g =
+    let p = g ∙ ap (reduce max) (filter_held (round_in a low r) t n e) in
+    (next-all a low r (held_of t) f p, floor-of a low r max (max-floor low) (held_of t) f p)
+
+pub lowest-found : (a : Agreed) (t : List ℕ) (low m r n : ℕ) (f : Option ℕ) → m ≡ max low 1 → n ≡ count_of t
+    → f ≡ reduce min (filter_map (λ i. round_in a m r (cert_at (held_of t) i)) (range_with_len 0 n)) → (unwrap_or f 0 ≡ lowest_round a low r (held_of t)) × IfSome f (λ q. low ≤ q)
+lowest-found a t low m r n f w e g =
+    let p = g ∙ ap (reduce min) (filter_held (round_in a m r) t n e) in (
+      lowest-all a m r (omega arith) (held_of t) f p ∙ ap (λ (v : ℕ). lowest_round a v r (held_of t)) w ∙ lowest_from_one a low r (held_of t),
+      floor_below low m f (omega arith) (floor-of a m r min (min-floor m) (held_of t) f p),
+    )

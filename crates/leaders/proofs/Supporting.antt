@@ -53,8 +53,8 @@ naming-cons ss d r c cs = go (eqb c.round r) refl (is_in d c.parents) refl
     go false t n u = rw (t, of_round) (omega arith)
 
 -- the origin is a member
-pub member_below : (s t : List ℕ) (i o : ℕ) → held_shape ((length s - 8) / 69) t ≡ true → i < count_of t → o ≡ (cert_at (held_of t) i).origin → o < (length s - 8) / 69
-member_below s t i o h l e = rw e (origin-below ((length s - 8) / 69) t i h l)
+pub member_below : (s t : List ℕ) (n i o : ℕ) → held_shape n t ≡ true → n ≡ (length s - 8) / 69 → i < count_of t → o ≡ (cert_at (held_of t) i).origin → o < (length s - 8) / 69
+member_below s t n i o h m l e = rw (e, ← m) (origin-below n t i h l)
 
 -- ---- validity is not 0: each member has stake
 

@@ -68,6 +68,11 @@ pub holds : (x b : Bool) → (x ≡ false → b ≡ false) → b ≡ true → x 
 holds true b f e = refl
 holds false b f e = absurd (true-not-false (sym e ∙ f refl))
 
+-- a shape that `new` refuses
+pub not-shaped : (b : Bool) → (b ≡ true → false ≡ true) → b ≡ false
+not-shaped true f = absurd (true-not-false (sym (f refl)))
+not-shaped false f = refl
+
 -- what a lawful shape says
 module _ (h : List ℕ) (s : header_shape h ≡ true) where
   pub header-length : length h ≡ 3402

@@ -12,7 +12,6 @@ use Rattle.wire.proofs.Laws.{put-mid, length-bytes}
 use Rattle.messages.specs.Header.{parent_count, payload_count, lawful_round, header_shape}
 use Rattle.messages.specs.Strings.{header_string, vote_string}
 use Rattle.messages.specs.Answers.{fits, written_answer, written_out, Written, may_header, may_vote}
-use Rattle.refusal.specs.Answers.{Answer}
 use Rattle.std.specs.Prelude.{Ok, Err}
 use Rattle.refusal.specs.declared.Refusal.TheVariants.{BadShape}
 use Rattle.messages.proofs.Laws.{header-length, header-parents, header-payload}
@@ -41,43 +40,28 @@ unfolding written_answer written_out
 done may s out y at n k e l q f = record { answer = rw (e, l); buffer = rw e (put-mid out y at k (ap length f ∙ l ∙ sym q) ∙ rw f) }
 
 -- ---- a header's
-module _ (h out : List ℕ) (at : ℕ) (b : Bool) (e : b ≡ header_shape h) where
-  pub header-misshapen : not b ≡ true → Written (may_header h out at) (header_string h) out at (Err BadShape) out
-  unfolding may_header
-  header-misshapen f = refused _ (header_string h) out at (rw (sym e ∙ not-true b f))
+pub header-misshapen : (h out : List ℕ) (at : ℕ) → header_shape h ≡ false → Written (may_header h out at) (header_string h) out at (Err BadShape) out
+unfolding may_header
+header-misshapen h out at s = refused _ (header_string h) out at (rw s)
 
-  module _ (f : not b ≡ false) where
-    shaped : header_shape h ≡ true
-    shaped = sym e ∙ not-false b f
+module _ (h out : List ℕ) (at : ℕ) (s : header_shape h ≡ true) (n : ℕ) (l : n ≡ length (header_string h)) where
+  pub shaped-string : n ≡ 40 + payload_count h * 36 + parent_count h * 32
+  shaped-string = l ∙ header-string-length h (header-length h s) (header-parents h s) (header-payload h s)
 
-    pub shaped-length : length h ≡ 3402
-    shaped-length = header-length h shaped
+  pub shaped-few : n ≤ 3368
+  shaped-few = omega (arith, shaped-string, header-parents h s, header-payload h s)
 
-    pub shaped-parents : parent_count h ≤ 32
-    shaped-parents = header-parents h shaped
+  pub header-no-room : (b : Bool) → b ≡ leb (at + n) (length out) → not b ≡ true → Written (may_header h out at) (header_string h) out at (Err BadShape) out
+  unfolding may_header fits
+  header-no-room b e f = refused _ (header_string h) out at (rw (s, sym l) (sym e ∙ not-true b f))
 
-    pub shaped-payload : payload_count h ≤ 64
-    shaped-payload = header-payload h shaped
+  module _ (b : Bool) (e : b ≡ leb (at + n) (length out)) (f : not b ≡ false) where
+    pub header-part : length (take (at + n - at) (drop at out)) ≡ 40 + payload_count h * 36 + parent_count h * 32
+    header-part = simp (length-take, length-drop) (omega (arith, room-yes out at n b e f, shaped-string))
 
-    module _ (n : ℕ) (l : n ≡ length (header_string h)) where
-      pub shaped-string : n ≡ 40 + payload_count h * 36 + parent_count h * 32
-      shaped-string = l ∙ header-string-length h shaped-length shaped-parents shaped-payload
-
-      pub shaped-few : n ≤ 3368
-      shaped-few = omega (arith, shaped-string, shaped-parents, shaped-payload)
-
-      pub header-no-room : (b' : Bool) → b' ≡ leb (at + n) (length out) → not b' ≡ true → Written (may_header h out at) (header_string h) out at (Err BadShape) out
-      unfolding may_header fits
-      header-no-room b' e' f' = refused _ (header_string h) out at (rw (shaped, sym l) (sym e' ∙ not-true b' f'))
-
-      module _ (b' : Bool) (e' : b' ≡ leb (at + n) (length out)) (f' : not b' ≡ false) where
-        pub header-part : length (take (at + n - at) (drop at out)) ≡ 40 + payload_count h * 36 + parent_count h * 32
-        header-part = simp (length-take, length-drop) (omega (arith, room-yes out at n b' e' f', shaped-string))
-
-        pub header-done : (y : List ℕ) → y ≡ header_string h → Written (may_header h out at) (header_string h) out at (Ok n) (put_mid at (at + n - at) out y)
-        unfolding may_header fits
-        header-done y g =
-            done _ (header_string h) out y at n (at + n - at) (rw (shaped, sym l) (sym e' ∙ not-false b' f')) (sym l) (omega arith) g
+    pub header-done : (y : List ℕ) → y ≡ header_string h → Written (may_header h out at) (header_string h) out at (Ok n) (put_mid at (at + n - at) out y)
+    unfolding may_header fits
+    header-done y g = done _ (header_string h) out y at n (at + n - at) (rw (s, sym l) (sym e ∙ not-false b f)) (sym l) (omega arith) g
 
 -- ---- a vote's and a certificate's
 module _ (id origin out : List ℕ) (round at : ℕ) where

@@ -25,7 +25,7 @@ pub item-string-length : (p : List ℕ) → 36 ≤ length p → length (payload_
 unfolding payload_item digest_in
 item-string-length p h = rw (length-append, length_part p 0 32 (omega arith), length-bytes)
 
-pub item-written : (p out out₁ out₂ d : List ℕ) (w : ℕ) → 36 ≤ length p → length out ≡ 36 → d ≡ digest_in p → w ≡ worker_in p → out₁ ≡ splice out 0 d → out₂ ≡ splice out₁ 32 (bytes 4 w) → out₂ ≡ payload_item p
+pub item-written : (p out out₁ out₂ d : List ℕ) (w : ℕ) → length p ≡ 36 → length out ≡ 36 → d ≡ digest_in p → w ≡ worker_in p → out₁ ≡ splice out 0 d → out₂ ≡ splice out₁ 32 (bytes 4 w) → out₂ ≡ payload_item p
 unfolding payload_item digest_in
 item-written p out out₁ out₂ d w h l ed ew e₁ e₂ =
     let ld : length d ≡ 32 = ap length ed ∙ length_part p 0 32 (omega arith) in
@@ -126,7 +126,7 @@ module _ (h : List ℕ) (n : ℕ) (l : length h ≡ 3402) (few : payload_count h
     pub payload-end : i * 36 + 36 ≤ length out
     payload-end = omega (arith, filling-length (map payload_item (payload_of h)) 36 n out₀ out i s)
 
-    pub payload-long : (p : List ℕ) → p ≡ item_in 36 h 1098 i → 36 ≤ length p
+    payload-long : (p : List ℕ) → p ≡ item_in 36 h 1098 i → 36 ≤ length p
     payload-long p f = omega (arith, ap length f, item-length 36 h 1098 (payload_count h) (omega arith) i (omega arith))
 
     module _ (p r : List ℕ) (f : p ≡ item_in 36 h 1098 i) (g : r ≡ payload_item p) where
@@ -154,18 +154,11 @@ vote-written id origin out out₁ out₂ out₃ round li lo l e₁ e₂ e₃ =
     ∙ splice-full out (id ++ bytes 8 round ++ origin) (simp length-append (omega arith))
     ∙ append_assoc id (bytes 8 round) origin
 
-pub digest-room : (p d out : List ℕ) → 36 ≤ length p → length out ≡ 36 → d ≡ digest_in p → 0 + length d ≤ length out
-unfolding digest_in
-digest-room p d out h l e = omega (arith, ap length e, length_part p 0 32 (omega arith))
-
 -- ---- a header's string: its length, and the fields written one behind the other
 module _ (h : List ℕ) (l : length h ≡ 3402) where
   author-length : length (author_of h) ≡ 32
   unfolding author_of
   author-length = length_part h 32 32 (omega arith)
-
-  pub author-room : (a out : List ℕ) → a ≡ author_of h → length out ≡ 40 + payload_count h * 36 + parent_count h * 32 → 0 + length a ≤ length out
-  author-room a out e m = omega (arith, ap length e, author-length)
 
   module _ (lm : parent_count h ≤ 32) (lk : payload_count h ≤ 64) where
     parents-length : length (flat (parents_of h)) ≡ parent_count h * 32

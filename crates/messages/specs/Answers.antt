@@ -1,5 +1,5 @@
 -- What each writer answers and leaves in the lent buffer, for every input: document 01, 11 BadShape. Assumes nothing.
-use Rattle.std.specs.Prelude.{ℕ, ◌+◌, ◌*◌, ◌≡◌, Bool, true, false, ◌&&◌, List, length, eqb, leb}
+use Rattle.std.specs.Prelude.{ℕ, ◌+◌, ◌≡◌, Bool, true, false, ◌&&◌, List, length, eqb, leb}
 use Rattle.wire.specs.Bytes.{splice}
 use Rattle.messages.specs.Header.{lawful_round, header_shape}
 use Rattle.messages.specs.Strings.{header_string, vote_string}

@@ -2,6 +2,7 @@
 ghost use Rattle.std.specs.Prelude.{◌≡◌, ◌+◌, leb, length};
 ghost use Rattle.messages.specs.Answers.{HeaderWritten, VoteWritten};
 
+use crate::header::Header;
 use refusal::Refusal;
 
 // Whether n bytes have room from at.
@@ -18,9 +19,7 @@ fn has_room(out: &[u8], at: u64, n: usize) -> bool
 pub fn header_string(header: &[u8], out: &mut [u8], at: u64) -> Result<u32, Refusal>
     ensures { HeaderWritten header.now out.old at result out.new }
 {
-    if !crate::header::shape(header) {
-        return Err(Refusal::BadShape);
-    }
+    let header = Header::new(header)?.bytes;
     let n = crate::strings::header_length(header);
     if !has_room(out, at, n) {
         return Err(Refusal::BadShape);
@@ -41,12 +40,12 @@ pub fn vote_string(
 ) -> Result<u32, Refusal>
     ensures { VoteWritten id.now round origin.now out.old at result out.new }
 {
-    if id.len() != 32 {
+    let Some(id) = id.as_array::<32>() else {
         return Err(Refusal::BadShape);
-    }
-    if origin.len() != 32 {
+    };
+    let Some(origin) = origin.as_array::<32>() else {
         return Err(Refusal::BadShape);
-    }
+    };
     if !crate::header::lawful_round(round) {
         return Err(Refusal::BadShape);
     }

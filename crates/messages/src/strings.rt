@@ -4,11 +4,10 @@ ghost use Rattle.wire.specs.Items.{flat};
 ghost use Rattle.messages.specs.Header.{parent_count, payload_count, parents_of, payload_of, header_shape};
 ghost use Rattle.messages.specs.Strings.{payload_item, header_string, vote_string};
 
-use crate::header::PARENTS;
+use crate::header::{HEADER, PARENTS};
 
 // A payload digest, then its worker id.
-fn write_item(item: &[u8], out: &mut [u8])
-    requires in_bounds { 36 ≤ length item.now }
+fn write_item(item: &[u8; 36], out: &mut [u8])
     requires out_len { length out.old ≡ 36 }
     ensures { out.new ≡ payload_item item.now }
 {
@@ -17,8 +16,7 @@ fn write_item(item: &[u8], out: &mut [u8])
 }
 
 // Each payload item.
-fn write_payload(header: &[u8], out: &mut [u8])
-    requires header_len { length header.now ≡ 3402 }
+fn write_payload(header: &[u8; HEADER], out: &mut [u8])
     requires header_bound { payload_count header.now ≤ 64 }
     requires out_len { length out.old ≡ payload_count header.now * 36 }
     ensures { out.new ≡ flat (map payload_item (payload_of header.now)) }
@@ -32,8 +30,7 @@ fn write_payload(header: &[u8], out: &mut [u8])
 }
 
 // Each parent.
-fn write_parents(header: &[u8], out: &mut [u8])
-    requires header_len { length header.now ≡ 3402 }
+fn write_parents(header: &[u8; HEADER], out: &mut [u8])
     requires header_bound { parent_count header.now ≤ 32 }
     requires out_len { length out.old ≡ parent_count header.now * 32 }
     ensures { out.new ≡ flat (parents_of header.now) }
@@ -43,8 +40,7 @@ fn write_parents(header: &[u8], out: &mut [u8])
 }
 
 // How long a header's string is.
-pub fn header_length(header: &[u8]) -> usize
-    requires header_len { length header.now ≡ 3402 }
+pub fn header_length(header: &[u8; HEADER]) -> usize
     requires header_bound { parent_count header.now ≤ 32 }
     requires header_bound_2 { payload_count header.now ≤ 64 }
     ensures { result ≡ length (header_string header.now) }
@@ -55,8 +51,7 @@ pub fn header_length(header: &[u8]) -> usize
 }
 
 // A header's string, into a part of its length. The round is any.
-pub fn write_header(header: &[u8], out: &mut [u8])
-    requires header_len { length header.now ≡ 3402 }
+pub fn write_header(header: &[u8; HEADER], out: &mut [u8])
     requires header_bound { parent_count header.now ≤ 32 }
     requires header_bound_2 { payload_count header.now ≤ 64 }
     requires out_len { length out.old ≡ 40 + payload_count header.now * 36 + parent_count header.now * 32 }
@@ -70,9 +65,7 @@ pub fn write_header(header: &[u8], out: &mut [u8])
 }
 
 // A vote's and a certificate's string, into a part of 72 bytes. The round is any.
-pub fn write_vote(id: &[u8], round: u64, origin: &[u8], out: &mut [u8])
-    requires id_len { length id.now ≡ 32 }
-    requires origin_len { length origin.now ≡ 32 }
+pub fn write_vote(id: &[u8; 32], round: u64, origin: &[u8; 32], out: &mut [u8])
     requires out_len { length out.old ≡ 72 }
     ensures { out.new ≡ vote_string id.now round origin.now }
 {

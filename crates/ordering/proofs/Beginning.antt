@@ -24,9 +24,10 @@ use Rattle.held.specs.Rows.{row_of, head_of, cert_with}
 use Rattle.held.proofs.Putting.{certs-fit, row-size}
 use Rattle.ordering.specs.Start.{room_for, valid_start, start_answer, digests_of, genesis_rows, fresh_table, fresh_state, Started}
 use Rattle.refusal.specs.Answers.{Answer, value_of}
+use Rattle.refusal.specs.declared.Refusal.{Refusal}
 use Rattle.std.specs.Prelude.{Ok, Err}
 use Rattle.refusal.specs.declared.Refusal.TheVariants.{BadCommittee, BadShape}
-use Rattle.ordering.proofs.Replies.{when-done, when-committee, when-shape}
+use Rattle.ordering.proofs.Replies.{when-done, when_refused}
 use Rattle.ordering.proofs.Zeros.{zeros, length-zeros, zeros-add, part-zeros, cleared}
 
 -- ---- `has_room`: the tests one after the other
@@ -293,20 +294,14 @@ fits ms g s t v x =
     record { records = omega (arith, y.size); few = w.few; room = omega (arith, x.long) }
 
 -- ---- `start`
-module _ (setup g s t : List ℕ) (v : Bool) (ev : v ≡ valid_setup setup) where
-  pub start-no : not v ≡ true → Started setup g s t (Err BadCommittee) s t
+module _ (setup g s t : List ℕ) where
+  pub start_refused : (r : Refusal) → r ≡ BadCommittee → valid_setup setup ≡ false → Started setup g s t (Err r) s t
   unfolding start_answer
-  start-no f =
-      let e : start_answer setup g s t ≡ (Err BadCommittee) = rw (sym ev ∙ not-true v f, start_answer) in
-      record { answer = sym e; state = sym (when-committee (start_answer setup g s t) _ s e); table = sym (when-committee (start_answer setup g s t) _ t e) }
+  start_refused r q v =
+      let e : start_answer setup g s t ≡ Err r = rw q (rw (v, start_answer)) in
+      record { answer = sym e; state = sym (when_refused (start_answer setup g s t) _ s r e); table = sym (when_refused (start_answer setup g s t) _ t r e) }
 
-  module _ (fv : not v ≡ false) where
-    setup-yes : valid_setup setup ≡ true
-    setup-yes = sym ev ∙ not-false v fv
-
-    pub start-long : 8 ≤ length setup
-    start-long = (valid-setup setup setup-yes).long
-
+  module _ (setup-yes : valid_setup setup ≡ true) where
     module _ (ms : List ℕ) (em : ms ≡ drop 8 setup) (b : Bool) (eb : b ≡ valid_start ms g s t) where
       test-is : (x : Bool) → b ≡ x → valid_start (drop 8 setup) g s t ≡ x
       test-is x q = ap (λ (w : List ℕ). valid_start w g s t) (sym em) ∙ sym eb ∙ q
@@ -315,7 +310,7 @@ module _ (setup g s t : List ℕ) (v : Bool) (ev : v ≡ valid_setup setup) wher
       unfolding start_answer
       start-shape f =
           let e : start_answer setup g s t ≡ (Err BadShape) = rw (setup-yes, start_answer, test-is false (not-true b f), start_answer) in
-          record { answer = sym e; state = sym (when-shape (start_answer setup g s t) _ s e); table = sym (when-shape (start_answer setup g s t) _ t e) }
+          record { answer = sym e; state = sym (when_refused (start_answer setup g s t) _ s BadShape e); table = sym (when_refused (start_answer setup g s t) _ t BadShape e) }
 
       module _ (f : not b ≡ false) where
         valid-is : ValidStart (drop 8 setup) g s t

@@ -8,7 +8,7 @@ use Rattle.table.specs.Rows.{places}
 use Rattle.ordering.specs.Answers.{when_done}
 use Rattle.refusal.specs.Answers.{Answer, value_of}
 use Rattle.std.specs.Prelude.{Ok, Err}
-use Rattle.refusal.specs.declared.Refusal.TheVariants.{BadCommittee, BadShape, UnknownAuthority, NoRoom, HistoryMissing, DigestClash}
+use Rattle.refusal.specs.declared.Refusal.{Refusal}
 
 -- what `code` asks, of an answer that lists no more than a table has places
 pub count_fits : (a : Answer) (t : List ℕ) → value_of a ≤ places 1062 t → length t < 256 ^ 8 → value_of a < 256 ^ 7
@@ -21,10 +21,6 @@ module _ (a : Answer) (new old : List ℕ) where
   unfolding when_done
   when-done n e = rw (e, when_done)
 
-  pub when-committee : a ≡ Err BadCommittee → when_done a new old ≡ old
+  pub when_refused : (r : Refusal) → a ≡ Err r → when_done a new old ≡ old
   unfolding when_done
-  when-committee e = rw (e, when_done)
-
-  pub when-shape : a ≡ Err BadShape → when_done a new old ≡ old
-  unfolding when_done
-  when-shape e = rw (e, when_done)
+  when_refused r e = rw (e, when_done)

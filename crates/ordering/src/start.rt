@@ -6,6 +6,7 @@ ghost use Rattle.genesis.specs.Genesis.{record_digest};
 ghost use Rattle.held.specs.Rows.{row_of, cert_with};
 ghost use Rattle.ordering.specs.Start.{room_for, valid_start, digests_of, genesis_rows, fresh_table, Started};
 
+use config::committee::Setup;
 use refusal::Refusal;
 
 // Whether a table has no byte over and more places than n. What stands in it is not looked at.
@@ -85,10 +86,9 @@ pub fn start(
 ) -> Result<usize, Refusal>
     ensures { Started setup.now genesis.now state.old table.old result state.new table.new }
 {
-    if !config::committee::valid_setup(setup) {
-        return Err(Refusal::BadCommittee);
-    }
-    if !is_start(config::committee::members_of(setup), genesis, state, table) {
+    let setup = Setup::new(setup)?;
+    let committee = setup.committee();
+    if !is_start(committee.members, genesis, state, table) {
         return Err(Refusal::BadShape);
     }
     start_table(genesis, table);

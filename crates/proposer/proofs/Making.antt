@@ -1,17 +1,19 @@
 -- The laws of `specs/Header.antt`: the writes in a row are the header. Assumes nothing.
-use mathlib.Core.Path.{◌≡◌, ◌∙◌}
+use mathlib.Core.Path.{◌≡◌, ap, ◌∙◌}
 use mathlib.Core.Bool.{true}
 use mathlib.Core.List.{List, [], ◌∷◌, append-nil}
-use Prim.Native.Nat.{ℕ, ◌+◌, ◌*◌, ◌≤◌, ◌<◌}
+use Prim.Native.Nat.{ℕ, ◌+◌, ◌*◌, ◌/◌, ◌≤◌, ◌<◌}
+use native.Mathlib.Nat.{div-mul-le_self, mul-le-mul_left}
 use native.Mathlib.Omega.{arith}
 use lib.ListN.{length, take, length-replicate, drop_of_length-le}
 use Rattle.wire.specs.Bytes.{part, splice, bytes}
 use Rattle.wire.specs.Items.{items}
+use Rattle.wire.proofs.Laws.{length_part}
 use Rattle.wire.proofs.Lists.{length-items}
 use Rattle.proposer.specs.Sorted.{put_in, sorted_from, sorted_once, Laid}
 use Rattle.proposer.specs.State.{zeros, own_in, round_in, parent_count, waiting_count, parents_in, waiting_in, valid_state}
 use Rattle.proposer.specs.Header.{with_list, header_of, header_made}
-use Rattle.proposer.proofs.Order.{put-most}
+use Rattle.proposer.proofs.Order.{put-most, items-part}
 use Rattle.proposer.proofs.Values.{is_state}
 
 pub length-zeros : (n : ℕ) → length (zeros n) ≡ n
@@ -38,22 +40,32 @@ pub sorted-few : (xs : List (List ℕ)) → length (sorted_once xs) ≤ length x
 unfolding sorted_once
 sorted-few xs = omega (arith, sorted-most [] xs)
 
-module _ (size : ℕ) (src : List ℕ) (at n : ℕ) (xs : List ℕ) (to r : ℕ) (ys : List ℕ) (a : Laid (sorted_once (items size src at n)) xs to r ys) where
-  pub list-few : n < 256 → r < 256
-  list-few h = omega (arith, a.count, sorted-few (items size src at n), length-items size src at n)
+module _ (size : ℕ) (src xs : List ℕ) (to r : ℕ) (ys : List ℕ) (a : Laid (sorted_once (items size src 0 (length src / size))) xs to r ys) where
+  pub list-few : 32 ≤ size → to + length src ≤ 3402 → r < 256
+  list-few g h =
+      let n : ℕ = length src / size in
+      let m : n * 32 ≤ n * size = mul-le-mul_left n g in
+      omega (arith, a.count, sorted-few (items size src 0 n), length-items size src 0 n, div-mul-le_self (length src) size)
 
-  pub list-is : (k : ℕ) (zs : List ℕ) → zs ≡ splice ys k (r ∷ []) → zs ≡ with_list xs k to (sorted_once (items size src at n))
+  pub list-is : (k : ℕ) (zs : List ℕ) → zs ≡ splice ys k (r ∷ []) → zs ≡ with_list xs k to (sorted_once (items size src 0 (length src / size)))
   unfolding with_list
   list-is k zs e = e ∙ rw (a.bytes, a.count)
 
 -- ---- all of it
-module _ (s : List ℕ) (h : valid_state s ≡ true) (n : ℕ) where
-  pub parents-fit : n ≡ parent_count s → 38 + n * 32 ≤ length s
-  parents-fit e = omega (arith, is_state s h)
+module _ (s : List ℕ) (h : valid_state s ≡ true) (ps : List ℕ) (ep : ps ≡ part s 38 (parent_count s * 32)) where
+  pub parents-long : length ps ≤ 1024
+  parents-long = omega (arith, is_state s h, ap length ep, length_part s 38 (parent_count s * 32) (omega (arith, is_state s h)))
 
-  pub waiting-fit : n ≡ waiting_count s → 1062 + n * 36 ≤ length s
-  waiting-fit e = omega (arith, is_state s h)
+  parents-are : items 32 ps 0 (length ps / 32) ≡ items 32 s 38 (parent_count s)
+  parents-are = items-part 32 s 38 (parent_count s) ps (omega arith) (omega (arith, is_state s h)) ep
 
-pub header_is : (s a b c : List ℕ) (n m : ℕ) → a ≡ splice (splice (zeros 3402) 32 (own_in s)) 64 (bytes 8 (round_in s)) → n ≡ parent_count s → b ≡ with_list a 72 74 (sorted_once (items 32 s 38 n)) → m ≡ waiting_count s → c ≡ with_list b 73 1098 (sorted_once (items 36 s 1062 m)) → c ≡ header_made s
-unfolding header_made header_of parents_in waiting_in
-header_is s a b c n m ea en eb em ec = ec ∙ rw (eb, ea, en, em)
+  module _ (qs : List ℕ) (eq : qs ≡ part s 1062 (waiting_count s * 36)) where
+    pub waiting-long : length qs ≤ 2304
+    waiting-long = omega (arith, is_state s h, ap length eq, length_part s 1062 (waiting_count s * 36) (omega (arith, is_state s h)))
+
+    waiting-are : items 36 qs 0 (length qs / 36) ≡ items 36 s 1062 (waiting_count s)
+    waiting-are = items-part 36 s 1062 (waiting_count s) qs (omega arith) (omega (arith, is_state s h)) eq
+
+    pub header_is : (a b c : List ℕ) → a ≡ splice (splice (zeros 3402) 32 (own_in s)) 64 (bytes 8 (round_in s)) → b ≡ with_list a 72 74 (sorted_once (items 32 ps 0 (length ps / 32))) → c ≡ with_list b 73 1098 (sorted_once (items 36 qs 0 (length qs / 36))) → c ≡ header_made s
+    unfolding header_made header_of parents_in waiting_in
+    header_is a b c ea eb ec = ec ∙ rw (eb, ea, parents-are, waiting-are)

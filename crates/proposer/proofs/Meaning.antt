@@ -1,12 +1,11 @@
 -- WHAT EACH STEP LEAVES, as values: own key, round, parents and waiting digests of the state after it. Assumes nothing.
-use mathlib.Core.Path.{◌≡◌, refl, sym, ap, ◌∙◌}
+use mathlib.Core.Path.{◌≡◌, sym, ap, ◌∙◌}
 use mathlib.Core.Bool.{true}
 use mathlib.Core.List.{List, [], ◌∷◌, ◌++◌}
-use Prim.Native.Nat.{ℕ, zero, suc, ◌+◌, ◌*◌, ◌/◌, ◌≤◌, ◌<◌}
-use native.Mathlib.Nat.{suc-mul, zero-add, div-mul-le_self}
+use Prim.Native.Nat.{ℕ, ◌+◌, ◌*◌, ◌/◌, ◌≤◌, ◌<◌}
+use native.Mathlib.Nat.{div-mul-le_self}
 use native.Mathlib.Omega.{arith}
-use lib.ListN.{length, get_or, take, drop, length-append, get_or-replicate}
-use lib.Seq.{take-nil, take-take}
+use lib.ListN.{length, get_or, drop, length-append, get_or-replicate}
 use borrow.Author.Tests.{eq-eqb, le-leb}
 use Rattle.wire.specs.Bytes.{part, splice, word, bytes}
 use Rattle.wire.specs.Items.{chunks, items, flat}
@@ -14,7 +13,7 @@ use Rattle.wire.proofs.Laws.{get_d_part, length-bytes, word_bytes, length-splice
 use Rattle.wire.proofs.Lists.{Sized, none, one, sized-append, length-items, items-sized, length-flat, flat_append, flat-one}
 use Rattle.proposer.specs.State.{zeros, own_in, round_in, parent_count, waiting_count, parents_in, waiting_in, valid_state, next_round, advanced, added, emptied, digests_of}
 use Rattle.proposer.proofs.Splices.{get-before, get_after, get_at, splice-left}
-use Rattle.proposer.proofs.Order.{flat_items, items-laid}
+use Rattle.proposer.proofs.Order.{flat_items, chunks-take, items-laid}
 use Rattle.proposer.proofs.Values.{IsState, is_state}
 use Rattle.proposer.proofs.Making.{length-zeros}
 
@@ -24,23 +23,6 @@ unfolding valid_state
 state-of s i = rw (eq-eqb _ _ i.size, le-leb _ _ i.round, le-leb _ _ i.parents, le-leb _ _ i.waiting)
 
 -- ---- items are the same where their bytes are
-drop-take : (k m : ℕ) (xs : List ℕ) → drop k (take (k + m) xs) ≡ take m (drop k xs)
-drop-take zero m xs = rw zero-add
-drop-take (suc k) m [] =
-    let e : suc k + m ≡ suc (k + m) = omega arith in
-    rw (e, take-nil)
-drop-take (suc k) m (x ∷ xs) =
-    let e : suc k + m ≡ suc (k + m) = omega arith in
-    rw e (drop-take k m xs)
-
-chunks-take : (size : ℕ) (xs : List ℕ) (n : ℕ) → chunks size (take (n * size) xs) n ≡ chunks size xs n
-unfolding chunks
-chunks-take size xs zero = refl
-chunks-take size xs (suc n) =
-    let q : suc n * size ≡ size + n * size = omega (arith, suc-mul n size) in
-    let l : size ≤ size + n * size = omega arith in
-    rw (q, take-take size (size + n * size) xs l, drop-take size (n * size) xs, chunks-take size (drop size xs) n)
-
 pub items-same : (size at n : ℕ) (xs ys : List ℕ) → part xs at (n * size) ≡ part ys at (n * size) → items size xs at n ≡ items size ys at n
 unfolding items part
 items-same size at n xs ys e = sym (chunks-take size (drop at xs) n) ∙ ap (λ (z : List ℕ). chunks size z n) e ∙ chunks-take size (drop at ys) n

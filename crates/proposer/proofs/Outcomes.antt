@@ -1,53 +1,20 @@
 -- The laws of `specs/Events.antt`, one for each way through a function: what it gives back and leaves is what the definition says. Assumes nothing.
 use mathlib.Core.Path.{◌≡◌, refl, sym, ◌∙◌}
-use mathlib.Core.Bool.{Bool, true, false, not, ◌&&◌}
+use mathlib.Core.Bool.{Bool, true, false, not}
 use mathlib.Core.List.{List}
-use Prim.Native.Nat.{ℕ, ◌*◌, ◌/◌, ◌%◌, ◌≤◌, ◌<◌}
+use Prim.Native.Nat.{ℕ, ◌/◌, ◌%◌, ◌≤◌, ◌<◌}
 use native.Mathlib.Omega.{arith}
-use lib.Dec.{eqb, leb}
 use lib.ListN.{length}
-use borrow.Author.Tests.{eq-eqb, ne_eqb, eqb-true, le-ltb, lt-ltb, le-leb, lt-leb, not-true, not-false}
+use borrow.Author.Tests.{eq-eqb, ne_eqb, le-ltb, lt-ltb, le-leb, lt-leb, not-true, not-false}
 use Rattle.proposer.specs.State.{round_in, waiting_count, valid_state, due_header, digests_of, advanced, added, emptied}
 use Rattle.proposer.specs.Header.{header_made}
-use Rattle.proposer.specs.Events.{Left, settled, received, valid_parents, parents_after, valid_digest, digest_after, valid_call, by_tag, event_after}
+use Rattle.proposer.specs.Events.{Left, settled, received, valid_parents, parents_after, valid_digest, digest_after, valid_pace, valid_call, by_tag, event_after}
 use Rattle.refusal.specs.Answers.{Answer}
+use Rattle.std.specs.Array.{IsWholeChunk}
 use Rattle.std.specs.Prelude.{Ok, Err}
-use Rattle.refusal.specs.declared.Refusal.TheVariants.{BadCommittee, BadShape, NoRoom}
-use Rattle.proposer.proofs.Values.{and_left, and_right, is_state, state-size, length-digests}
+use Rattle.refusal.specs.declared.Refusal.TheVariants.{BadShape, NoRoom}
+use Rattle.proposer.proofs.Values.{from-no, is_state, state-size, length-digests}
 use Rattle.proposer.proofs.Meaning.{state-advanced, state-added, digests-sized}
-
--- ---- `is_call`: the tests one after the other
-module _ (size timer : ℕ) (s h : List ℕ) where
-  pub call-size : 4294967295 < size → false ≡ valid_call size timer s h
-  unfolding valid_call
-  call-size a = sym (rw (lt-leb _ _ a))
-
-  pub call-timer : size ≤ 4294967295 → 1 < timer → false ≡ valid_call size timer s h
-  unfolding valid_call
-  call-timer a b = sym (rw (le-leb _ _ a, lt-leb _ _ b))
-
-  pub call-header : size ≤ 4294967295 → timer ≤ 1 → (length h ≡ 3402 → ⊥) → false ≡ valid_call size timer s h
-  unfolding valid_call
-  call-header a b c = sym (rw (le-leb _ _ a, le-leb _ _ b, ne_eqb _ _ c))
-
-  pub call-last : (t : Bool) → size ≤ 4294967295 → timer ≤ 1 → length h ≡ 3402 → t ≡ valid_state s → t ≡ valid_call size timer s h
-  unfolding valid_call
-  call-last t a b c d = d ∙ sym (rw (le-leb _ _ a, le-leb _ _ b, eq-eqb _ _ c))
-
-  module _ (t : Bool) (e : t ≡ valid_call size timer s h) (f : not t ≡ false) where
-    call-holds : valid_call size timer s h ≡ true
-    call-holds = sym e ∙ not-false t f
-
-    pub call-state : valid_state s ≡ true
-    unfolding valid_call
-    call-state = and_right (leb size 4294967295 && leb timer 1 && eqb (length h) 3402) (valid_state s) call-holds
-
-    pub call-room : length h ≡ 3402
-    unfolding valid_call
-    call-room =
-        eqb-true (length h) 3402
-        (and_right (leb size 4294967295 && leb timer 1) (eqb (length h) 3402)
-        (and_left (leb size 4294967295 && leb timer 1 && eqb (length h) 3402) (valid_state s) call-holds))
 
 -- ---- `settle`
 module _ (size timer : ℕ) (s h : List ℕ) (t : Bool) (e : t ≡ due_header size timer s) where
@@ -110,14 +77,14 @@ module _ (digest : List ℕ) (worker size timer : ℕ) (s h : List ℕ) where
   unfolding valid_digest
   digest-short a = digest-no (rw (ne_eqb _ _ a))
 
-  pub digest-worker : length digest ≡ 32 → 4294967295 < worker → Left (digest_after digest worker size timer s h) (Err BadShape) s h
+  pub digest-worker : (d : List ℕ) → IsWholeChunk digest d 32 → 4294967295 < worker → Left (digest_after digest worker size timer s h) (Err BadShape) s h
   unfolding valid_digest
-  digest-worker a b = digest-no (rw (eq-eqb _ _ a, lt-leb _ _ b))
+  digest-worker d i b = digest-no (rw (eq-eqb _ _ i.long, lt-leb _ _ b))
 
-  module _ (a : length digest ≡ 32) (b : worker ≤ 4294967295) (n : ℕ) (e : n ≡ waiting_count s) where
+  module _ (d : List ℕ) (i : IsWholeChunk digest d 32) (b : worker ≤ 4294967295) (n : ℕ) (e : n ≡ waiting_count s) where
     digest-yes : valid_digest digest worker ≡ true
     unfolding valid_digest
-    digest-yes = rw (eq-eqb _ _ a, le-leb _ _ b)
+    digest-yes = rw (eq-eqb _ _ i.long, le-leb _ _ b)
 
     pub digest-full : 64 ≤ n → Left (digest_after digest worker size timer s h) (Err NoRoom) s h
     unfolding digest_after
@@ -129,38 +96,60 @@ module _ (digest : List ℕ) (worker size timer : ℕ) (s h : List ℕ) where
       room : waiting_count s < 64
       room = omega arith
 
-      module _ (u : List ℕ) (f : u ≡ added s digest worker) where
+      module _ (u : List ℕ) (f : u ≡ added s d worker) where
         pub digest-taken : (r : Answer) (s' h' : List ℕ) → Left (settled size timer u h) r s' h' → Left (digest_after digest worker size timer s h) r s' h'
         unfolding digest_after
-        digest-taken r s' h' x = rw (digest-yes, digest_after, lt-ltb _ _ room, digest_after, ← f) x
+        digest-taken r s' h' x = rw (digest-yes, digest_after, lt-ltb _ _ room, digest_after, ← i.same, ← f) x
 
         pub digest-state : valid_state s ≡ true → valid_state u ≡ true
-        digest-state v = rw f (state-added s digest worker (state-size s v) a room v)
+        digest-state v = rw f (state-added s d worker (state-size s v) (rw i.same i.long) room v)
 
--- ---- `proposer_event`
-module _ (tag p : ℕ) (ps digest : List ℕ) (worker size timer : ℕ) (s h : List ℕ) (t : Bool) (e : t ≡ valid_call size timer s h) where
-  pub event-no : not t ≡ true → Left (event_after tag p ps digest worker size timer s h) (Err BadShape) s h
+-- ---- `proposer_event`: the tests one after the other
+module _ (tag p : ℕ) (ps digest : List ℕ) (worker size timer : ℕ) (s h : List ℕ) where
+  call-no : valid_call size timer s h ≡ false → Left (event_after tag p ps digest worker size timer s h) (Err BadShape) s h
   unfolding event_after
-  event-no f = rw (sym e ∙ not-true t f, event_after) (record { answer = refl; state = refl; header = refl })
+  call-no e = rw (e, event_after) (record { answer = refl; state = refl; header = refl })
 
-  module _ (f : not t ≡ false) where
-    event-yes : event_after tag p ps digest worker size timer s h ≡ by_tag tag p ps digest worker size timer s h
-    unfolding event_after
-    event-yes = rw (sym e ∙ not-false t f, event_after)
+  pub event-pace : (valid_pace size timer ≡ true → false ≡ true) → Left (event_after tag p ps digest worker size timer s h) (Err BadShape) s h
+  unfolding valid_call valid_pace
+  event-pace a = call-no (rw (from-no (valid_pace size timer) a))
 
-    module _ (r : Answer) (s' h' : List ℕ) where
-      pub event-parents : tag ≡ 1 → Left (parents_after p ps size timer s h) r s' h' → Left (event_after tag p ps digest worker size timer s h) r s' h'
-      unfolding by_tag
-      event-parents a x = rw (event-yes, eq-eqb _ _ a, by_tag) x
+  module _ (a : valid_pace size timer ≡ true) where
+    pub event-header : (length h ≡ 3402 → ⊥) → Left (event_after tag p ps digest worker size timer s h) (Err BadShape) s h
+    unfolding valid_call valid_pace
+    event-header b = call-no (rw (a, ne_eqb _ _ b))
 
-      pub event-digest : tag ≡ 2 → Left (digest_after digest worker size timer s h) r s' h' → Left (event_after tag p ps digest worker size timer s h) r s' h'
-      unfolding by_tag
-      event-digest a x = rw (event-yes, ne_eqb tag 1 (λ z. omega arith), eq-eqb _ _ a, by_tag) x
+    module _ (h₁ : List ℕ) (b : IsWholeChunk h h₁ 3402) where
+      pub event-state : (length s ≡ 3366 → ⊥) → Left (event_after tag p ps digest worker size timer s h) (Err BadShape) s h₁
+      unfolding valid_call valid_pace valid_state
+      event-state c = rw b.same (call-no (rw (a, eq-eqb _ _ b.long, ne_eqb _ _ c)))
 
-      pub event-timer : tag ≡ 3 → Left (settled size timer s h) r s' h' → Left (event_after tag p ps digest worker size timer s h) r s' h'
-      unfolding by_tag
-      event-timer a x = rw (event-yes, ne_eqb tag 1 (λ z. omega arith), ne_eqb tag 2 (λ z. omega arith), eq-eqb _ _ a, by_tag) x
+      module _ (s₁ : List ℕ) (c : IsWholeChunk s s₁ 3366) (t : Bool) (e : t ≡ valid_state s₁) where
+        call-is : t ≡ valid_call size timer s h
+        unfolding valid_call valid_pace
+        call-is = e ∙ rw (c.same, a, eq-eqb _ _ b.long)
 
-    pub event-other : (tag ≡ 1 → ⊥) → (tag ≡ 2 → ⊥) → (tag ≡ 3 → ⊥) → Left (event_after tag p ps digest worker size timer s h) (Err BadShape) s h
-    unfolding by_tag
-    event-other a b c = rw (event-yes, ne_eqb _ _ a, ne_eqb _ _ b, ne_eqb _ _ c, by_tag) (record { answer = refl; state = refl; header = refl })
+        pub event-no : not t ≡ true → Left (event_after tag p ps digest worker size timer s h) (Err BadShape) s₁ h₁
+        event-no f = rw (c.same, b.same) (call-no (sym call-is ∙ not-true t f))
+
+        module _ (f : not t ≡ false) where
+          event-yes : event_after tag p ps digest worker size timer s h ≡ by_tag tag p ps digest worker size timer s h
+          unfolding event_after
+          event-yes = rw (sym call-is ∙ not-false t f, event_after)
+
+          module _ (size₁ timer₁ : ℕ) (q : (size₁ ≡ size) × (timer₁ ≡ timer)) (r : Answer) (s' h' : List ℕ) where
+            pub event-parents : tag ≡ 1 → Left (parents_after p ps size₁ timer₁ s₁ h₁) r s' h' → Left (event_after tag p ps digest worker size timer s h) r s' h'
+            unfolding by_tag
+            event-parents g x = rw (event-yes, eq-eqb _ _ g, by_tag, ← q.0, ← q.1, ← c.same, ← b.same) x
+
+            pub event-digest : tag ≡ 2 → Left (digest_after digest worker size₁ timer₁ s₁ h₁) r s' h' → Left (event_after tag p ps digest worker size timer s h) r s' h'
+            unfolding by_tag
+            event-digest g x = rw (event-yes, ne_eqb tag 1 (λ z. omega arith), eq-eqb _ _ g, by_tag, ← q.0, ← q.1, ← c.same, ← b.same) x
+
+            pub event-timer : tag ≡ 3 → Left (settled size₁ timer₁ s₁ h₁) r s' h' → Left (event_after tag p ps digest worker size timer s h) r s' h'
+            unfolding by_tag
+            event-timer g x = rw (event-yes, ne_eqb tag 1 (λ z. omega arith), ne_eqb tag 2 (λ z. omega arith), eq-eqb _ _ g, by_tag, ← q.0, ← q.1, ← c.same, ← b.same) x
+
+          pub event-other : (tag ≡ 1 → ⊥) → (tag ≡ 2 → ⊥) → (tag ≡ 3 → ⊥) → Left (event_after tag p ps digest worker size timer s h) (Err BadShape) s₁ h₁
+          unfolding by_tag
+          event-other x y z = rw (event-yes, ne_eqb _ _ x, ne_eqb _ _ y, ne_eqb _ _ z, by_tag) (record { answer = refl; state = c.same; header = b.same })

@@ -2,13 +2,14 @@
 use mathlib.Core.Path.{◌≡◌, refl, sym, ◌∙◌}
 use mathlib.Core.Bool.{Bool, true, false, ◌&&◌}
 use mathlib.Core.List.{List, [], ◌∷◌, ◌++◌}
-use Prim.Native.Nat.{ℕ, ◌+◌, ◌*◌, ◌/◌, ◌%◌, ◌≤◌, ◌<◌}
+use Prim.Native.Nat.{ℕ, ◌+◌, ◌-◌, ◌*◌, ◌/◌, ◌%◌, ◌≤◌, ◌<◌}
 use native.Mathlib.Nat.{div-add-mod'}
 use native.Mathlib.Omega.{arith}
 use lib.Dec.{eqb, ltb, leb}
-use lib.ListN.{length}
+use lib.ListN.{length, take, drop}
 use borrow.Author.Tests.{eq-eqb, ne_eqb, eqb-true, le-ltb, lt-ltb, leb-true, le-leb, lt-leb}
-use Rattle.wire.specs.Bytes.{splice, bytes}
+use Rattle.std.specs.Array.{IsWholeChunk}
+use Rattle.wire.specs.Bytes.{part, splice, bytes}
 use Rattle.wire.specs.Items.{items, flat}
 use Rattle.wire.proofs.Laws.{part-all, length-bytes, true-not-false}
 use Rattle.wire.proofs.Lists.{length-items}
@@ -25,33 +26,36 @@ pub and_right : (a b : Bool) → (a && b) ≡ true → b ≡ true
 and_right true b e = e
 and_right false b e = absurd (true-not-false (sym e))
 
-pub and-false : (a b : Bool) → a ≡ false → (a && b) ≡ false
-and-false a b e = rw e
+pub from-no : (a : Bool) → (a ≡ true → false ≡ true) → a ≡ false
+from-no true h = sym (h refl)
+from-no false h = refl
 
 module _ (s : List ℕ) where
   pub valid-size : (length s ≡ 3366 → ⊥) → false ≡ valid_state s
   unfolding valid_state
   valid-size h = sym (rw (ne_eqb _ _ h))
 
-  module _ (r : ℕ) (l : length s ≡ 3366) (er : r ≡ round_in s) where
+  -- of the bytes as an array
+  module _ (a : List ℕ) (x : IsWholeChunk s a 3366) (r : ℕ) (er : r ≡ round_in a) where
     pub valid-round : r < 1 → false ≡ valid_state s
     unfolding valid_state
-    valid-round h = let k : round_in s < 1 = omega arith in sym (rw (eq-eqb _ _ l, lt-leb _ _ k))
+    valid-round h = let k : round_in s < 1 = rw (← x.same, ← er) h in sym (rw (eq-eqb _ _ x.long, lt-leb _ _ k))
 
-    module _ (hr : 1 ≤ r) (n : ℕ) (en : n ≡ parent_count s) where
+    module _ (hr : 1 ≤ r) (n : ℕ) (en : n ≡ parent_count a) where
+      round-high : 1 ≤ round_in s
+      round-high = rw (← x.same, ← er) hr
+
       pub valid-parents : 32 < n → false ≡ valid_state s
       unfolding valid_state
       valid-parents h =
-          let k : 1 ≤ round_in s = omega arith in
-          let m : 32 < parent_count s = omega arith in
-          sym (rw (eq-eqb _ _ l, le-leb _ _ k, lt-leb _ _ m))
+          let m : 32 < parent_count s = rw (← x.same, ← en) h in
+          sym (rw (eq-eqb _ _ x.long, le-leb _ _ round-high, lt-leb _ _ m))
 
-      pub valid-last : n ≤ 32 → (w : ℕ) → w ≡ waiting_count s → leb w 64 ≡ valid_state s
+      pub valid-last : n ≤ 32 → (w : ℕ) → w ≡ waiting_count a → leb w 64 ≡ valid_state s
       unfolding valid_state
       valid-last h w ew =
-          let k : 1 ≤ round_in s = omega arith in
-          let m : parent_count s ≤ 32 = omega arith in
-          sym (rw (eq-eqb _ _ l, le-leb _ _ k, le-leb _ _ m, ew))
+          let m : parent_count s ≤ 32 = rw (← x.same, ← en) h in
+          sym (rw (eq-eqb _ _ x.long, le-leb _ _ round-high, le-leb _ _ m, ew, x.same))
 
 pub record IsState (s : List ℕ) : Type 0 where
   pub size : length s ≡ 3366
@@ -75,14 +79,12 @@ module _ (s : List ℕ) (h : valid_state s ≡ true) where
   pub state-size : length s ≡ 3366
   state-size = (is_state s h).size
 
-  pub state-long : 3366 ≤ length s
-  state-long = omega (arith, state-size)
-
-  pub few-parents : (n : ℕ) → n ≡ parent_count s → n ≤ 32
-  few-parents n e = omega (arith, (is_state s h).parents)
-
-  pub few-waiting : (n : ℕ) → n ≡ waiting_count s → n ≤ 64
-  few-waiting n e = omega (arith, (is_state s h).waiting)
+-- ---- a list that is read
+pub part-read : (s : List ℕ) (at size n k : ℕ) → n ≡ k → take (at + n * size - at) (drop at s) ≡ part s at (k * size)
+unfolding part
+part-read s at size n k e =
+    let z : at + n * size - at ≡ n * size = omega arith in
+    rw (z, e)
 
 -- ---- whether a header is due
 module _ (size timer : ℕ) (s : List ℕ) (n : ℕ) (en : n ≡ parent_count s) where

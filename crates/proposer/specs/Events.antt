@@ -1,11 +1,11 @@
 -- What each event of the proposer is answered, and what it leaves in state and header, for every input: document 01, 'proposer'; 11 BadShape, then 12
 -- NoRoom. A refusal changes nothing. Assumes nothing.
-use Rattle.std.specs.Prelude.{◌≡◌, ℕ, ◌+◌, ◌*◌, ◌/◌, ◌%◌, Bool, true, false, ◌&&◌, List, length, eqb, ltb, leb}
+use Rattle.std.specs.Prelude.{◌≡◌, ℕ, ◌/◌, ◌%◌, Bool, true, false, ◌&&◌, List, length, eqb, ltb, leb}
 use Rattle.proposer.specs.State.{round_in, waiting_count, valid_state, due_header, digests_of, advanced, added, emptied}
 use Rattle.proposer.specs.Header.{header_made}
 use Rattle.refusal.specs.Answers.{Answer}
 use Rattle.std.specs.Prelude.{Ok, Err}
-use Rattle.refusal.specs.declared.Refusal.TheVariants.{BadCommittee, BadShape, NoRoom}
+use Rattle.refusal.specs.declared.Refusal.TheVariants.{BadShape, NoRoom}
 
 -- an answer, with what state and header hold then
 pub record After : Type 0 where
@@ -57,6 +57,10 @@ digest_after digest worker size timer s h =
       | true ↦ elim (ltb (waiting_count s) 64) [ true ↦ settled size timer (added s digest worker) h | false ↦ kept (Err NoRoom) s h ]
       | false ↦ kept (Err BadShape) s h
     ]
+
+-- header_size 0 to 4,294,967,295, the timer's verdict 0 or 1
+unfoldable pub valid_pace : ℕ → ℕ → Bool
+valid_pace size timer = leb size 4294967295 && leb timer 1
 
 -- header_size 0 to 4,294,967,295, the timer's verdict 0 or 1, a header's 3,402 bytes, and a state
 unfoldable pub valid_call : ℕ → ℕ → List ℕ → List ℕ → Bool

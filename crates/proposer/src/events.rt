@@ -1,38 +1,23 @@
 // The proposer's events and their answers.
-ghost use Rattle.std.specs.Prelude.{◌≡◌, true, length};
+ghost use Rattle.std.specs.Prelude.{◌≡◌, true};
 ghost use Rattle.proposer.specs.State.{valid_state};
-ghost use Rattle.proposer.specs.Events.{Left, valid_call, settled, parents_after, digest_after, event_after};
+ghost use Rattle.proposer.specs.Events.{Left, settled, parents_after, digest_after, event_after};
 
+use crate::header::HEADER;
+use crate::pace::Pace;
+use crate::state::STATE;
 use refusal::Refusal;
-
-// Whether the inputs that every event has are in the domain.
-pub fn is_call(header_size: u64, timer: u8, state: &[u8], header: &[u8]) -> bool
-    ensures { result ≡ valid_call header_size timer state.now header.now }
-{
-    if 4294967295 < header_size {
-        return false;
-    }
-    if 1 < timer {
-        return false;
-    }
-    if header.len() != crate::header::HEADER {
-        return false;
-    }
-    crate::state::is_state(state)
-}
 
 // Makes a header where one is due, and empties the state's lists.
 pub fn settle(
-    header_size: u64,
-    timer: u8,
-    state: &mut [u8],
-    header: &mut [u8],
+    pace: Pace,
+    state: &mut [u8; STATE],
+    header: &mut [u8; HEADER],
 ) -> Result<u32, Refusal>
-    requires state_value { valid_state state.old ≡ true }
-    requires header_len { length header.old ≡ 3402 }
-    ensures { Left (settled header_size timer state.old header.old) result state.new header.new }
+    requires { valid_state state.old ≡ true }
+    ensures { Left (settled pace.header_size pace.timer state.old header.old) result state.new header.new }
 {
-    if !crate::state::is_due(header_size, timer, state) {
+    if !crate::state::is_due(pace, state) {
         return Ok(0);
     }
     crate::header::fill_header(state, header);
@@ -44,14 +29,12 @@ pub fn settle(
 fn on_parents(
     p: u64,
     parents: &[u8],
-    header_size: u64,
-    timer: u8,
-    state: &mut [u8],
-    header: &mut [u8],
+    pace: Pace,
+    state: &mut [u8; STATE],
+    header: &mut [u8; HEADER],
 ) -> Result<u32, Refusal>
-    requires state_value { valid_state state.old ≡ true }
-    requires header_len { length header.old ≡ 3402 }
-    ensures { Left (parents_after p parents.now header_size timer state.old header.old) result state.new header.new }
+    requires { valid_state state.old ≡ true }
+    ensures { Left (parents_after p parents.now pace.header_size pace.timer state.old header.old) result state.new header.new }
 {
     if 4294967294 < p {
         return Err(Refusal::BadShape);
@@ -63,28 +46,26 @@ fn on_parents(
         return Err(Refusal::BadShape);
     }
     if p < crate::state::round(state) as u64 {
-        return settle(header_size, timer, state, header);
+        return settle(pace, state, header);
     }
     crate::state::advance(state, p, parents);
-    settle(header_size, timer, state, header)
+    settle(pace, state, header)
 }
 
 // A digest of a worker's batch.
 fn on_digest(
     digest: &[u8],
     worker: u64,
-    header_size: u64,
-    timer: u8,
-    state: &mut [u8],
-    header: &mut [u8],
+    pace: Pace,
+    state: &mut [u8; STATE],
+    header: &mut [u8; HEADER],
 ) -> Result<u32, Refusal>
-    requires state_value { valid_state state.old ≡ true }
-    requires header_len { length header.old ≡ 3402 }
-    ensures { Left (digest_after digest.now worker header_size timer state.old header.old) result state.new header.new }
+    requires { valid_state state.old ≡ true }
+    ensures { Left (digest_after digest.now worker pace.header_size pace.timer state.old header.old) result state.new header.new }
 {
-    if digest.len() != 32 {
+    let Some(digest) = digest.as_array::<32>() else {
         return Err(Refusal::BadShape);
-    }
+    };
     if 4294967295 < worker {
         return Err(Refusal::BadShape);
     }
@@ -92,7 +73,7 @@ fn on_digest(
         return Err(Refusal::NoRoom);
     }
     crate::state::add(state, digest, worker as u32);
-    settle(header_size, timer, state, header)
+    settle(pace, state, header)
 }
 
 // One event: 1 parents of round p, 2 a digest of a worker, 3 the timer. Inputs of other events are not looked at.
@@ -109,13 +90,21 @@ pub fn proposer_event(
 ) -> Result<u32, Refusal>
     ensures { Left (event_after tag p parents.now digest.now worker header_size timer state.old header.old) result state.new header.new }
 {
-    if !is_call(header_size, timer, state, header) {
+    let pace = Pace::new(header_size, timer)?;
+    let Some(header) = header.as_mut_array::<HEADER>() else {
+        return Err(Refusal::BadShape);
+    };
+    let Some(state) = state.as_mut_array::<STATE>() else {
+        return Err(Refusal::BadShape);
+    };
+    if !crate::state::is_state(state) {
         return Err(Refusal::BadShape);
     }
+    // A number, since the C interface gives the tag as one.
     match tag {
-        1 => on_parents(p, parents, header_size, timer, state, header),
-        2 => on_digest(digest, worker, header_size, timer, state, header),
-        3 => settle(header_size, timer, state, header),
+        1 => on_parents(p, parents, pace, state, header),
+        2 => on_digest(digest, worker, pace, state, header),
+        3 => settle(pace, state, header),
         _ => Err(Refusal::BadShape),
     }
 }

@@ -3,13 +3,15 @@ ghost use Rattle.std.specs.Prelude.{◌≡◌, ◌*◌, ◌/◌, ◌≤◌, leng
 ghost use Rattle.wire.specs.Bytes.{splice};
 ghost use Rattle.wire.specs.Items.{items, flat};
 ghost use Rattle.proposer.specs.Events.{Left};
-ghost use Rattle.proposer.specs.Start.{digests_in, started, valid_start, start_after};
+ghost use Rattle.proposer.specs.Start.{digests_in, started, start_after};
 
+use crate::header::HEADER;
+use crate::pace::Pace;
+use crate::state::STATE;
 use refusal::Refusal;
 
 // The digests of the n records of genesis, one behind the other into state from 38.
-fn put_genesis(state: &mut [u8], genesis: &[u8], n: usize)
-    requires state_len { length state.old ≡ 3366 }
+fn put_genesis(state: &mut [u8; STATE], genesis: &[u8], n: usize)
     requires n_in_bounds { n * 68 ≤ length genesis.now }
     requires n_bound { n ≤ 32 }
     ensures { state.new ≡ splice state.old 38 (flat (digests_in (items 68 genesis.now 0 n))) }
@@ -21,43 +23,15 @@ fn put_genesis(state: &mut [u8], genesis: &[u8], n: usize)
 }
 
 // The state at the start.
-fn start_state(own: &[u8], genesis: &[u8], state: &mut [u8])
-    requires own_len { length own.now ≡ 32 }
-    requires genesis_len_bound { length genesis.now / 68 ≤ 32 }
-    requires state_len { length state.old ≡ 3366 }
+fn start_state(own: &[u8; 32], genesis: &[u8], state: &mut [u8; STATE])
+    requires { length genesis.now / 68 ≤ 32 }
     ensures { state.new ≡ started own.now genesis.now }
 {
     let n = genesis.len() / genesis::RECORD;
-    crate::state::clear(state, 0, crate::state::STATE);
+    crate::state::clear(state, 0, STATE);
     wire::parts::put_bytes(state, 0, own);
     crate::state::next_round(state, 0, n);
     put_genesis(state, genesis, n);
-}
-
-// Whether the inputs of the start beside the committee are in the domain.
-fn is_start(
-    members: &[u8],
-    genesis: &[u8],
-    header_size: u64,
-    timer: u8,
-    state: &[u8],
-    header: &[u8],
-) -> bool
-    ensures { result ≡ valid_start members.now genesis.now header_size timer state.now header.now }
-{
-    if 4294967295 < header_size {
-        return false;
-    }
-    if 1 < timer {
-        return false;
-    }
-    if state.len() != crate::state::STATE {
-        return false;
-    }
-    if header.len() != crate::header::HEADER {
-        return false;
-    }
-    genesis::valid_genesis(members, genesis)
 }
 
 // Round 1 with genesis as parents; a header is made where one is due.
@@ -75,15 +49,22 @@ pub fn proposer_start(
     if !config::committee::valid_members(members) {
         return Err(Refusal::BadCommittee);
     }
-    if own.len() != 32 {
+    let Some(own) = own.as_array::<32>() else {
         return Err(Refusal::BadShape);
-    }
+    };
     let Some(_) = config::committee::standing_of(members, own) else {
         return Err(Refusal::BadCommittee);
     };
-    if !is_start(members, genesis, header_size, timer, state, header) {
+    let pace = Pace::new(header_size, timer)?;
+    let Some(state) = state.as_mut_array::<STATE>() else {
+        return Err(Refusal::BadShape);
+    };
+    let Some(header) = header.as_mut_array::<HEADER>() else {
+        return Err(Refusal::BadShape);
+    };
+    if !genesis::valid_genesis(members, genesis) {
         return Err(Refusal::BadShape);
     }
     start_state(own, genesis, state);
-    crate::events::settle(header_size, timer, state, header)
+    crate::events::settle(pace, state, header)
 }

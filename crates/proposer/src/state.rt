@@ -1,8 +1,10 @@
 // The proposer's state: own key 32, round 4, parent count 1, waiting count 1, parents 32 x 32 as given, waiting 64 x (digest 32, worker 4) in the order
 // in which they came.
-ghost use Rattle.std.specs.Prelude.{◌≡◌, true, ◌∷◌, [], ◌+◌, ◌%◌, ◌/◌, ◌≤◌, ◌<◌, length};
-ghost use Rattle.wire.specs.Bytes.{splice};
+ghost use Rattle.std.specs.Prelude.{◌≡◌, ◌∷◌, [], ◌+◌, ◌*◌, ◌%◌, ◌/◌, ◌≤◌, ◌<◌, length};
+ghost use Rattle.wire.specs.Bytes.{part, splice};
 ghost use Rattle.proposer.specs.State.{round_in, parent_count, waiting_count, valid_state, due_header, zeros, digests_of, next_round, advanced, added, emptied};
+
+use crate::pace::Pace;
 
 pub const STATE: usize = 3366;
 
@@ -14,27 +16,45 @@ pub fn round(state: &[u8]) -> u32
     wire::numbers::read_u32(state, 32)
 }
 
-pub fn parent_count(state: &[u8]) -> usize
+pub fn parent_count(state: &[u8]) -> u8
     requires { 3366 ≤ length state.now }
     ensures { result ≡ parent_count state.now }
 {
-    state[36] as usize
+    state[36]
 }
 
-pub fn waiting_count(state: &[u8]) -> usize
+pub fn waiting_count(state: &[u8]) -> u8
     requires { 3366 ≤ length state.now }
     ensures { result ≡ waiting_count state.now }
 {
-    state[37] as usize
+    state[37]
+}
+
+// The parents, one behind the other.
+pub fn parents(state: &[u8; STATE]) -> &[u8]
+    requires { parent_count state.now ≤ 32 }
+    ensures { result.now ≡ part state.now 38 (parent_count state.now * 32) }
+{
+    let n = parent_count(state) as usize;
+    &state[38..38 + n * 32]
+}
+
+// The waiting digests with their workers, one behind the other.
+pub fn waiting(state: &[u8; STATE]) -> &[u8]
+    requires { waiting_count state.now ≤ 64 }
+    ensures { result.now ≡ part state.now 1062 (waiting_count state.now * 36) }
+{
+    let n = waiting_count(state) as usize;
+    &state[1062..1062 + n * 36]
 }
 
 // Whether the bytes are a proposer's state.
 pub fn is_state(state: &[u8]) -> bool
     ensures { result ≡ valid_state state.now }
 {
-    if state.len() != STATE {
+    let Some(state) = state.as_array::<STATE>() else {
         return false;
-    }
+    };
     if round(state) < 1 {
         return false;
     }
@@ -45,17 +65,16 @@ pub fn is_state(state: &[u8]) -> bool
 }
 
 // Whether a header is due: parents are present, and the timer has run out or the payload is large enough.
-pub fn is_due(header_size: u64, timer: u8, state: &[u8]) -> bool
-    requires { valid_state state.now ≡ true }
-    ensures { result ≡ due_header header_size timer state.now }
+pub fn is_due(pace: Pace, state: &[u8; STATE]) -> bool
+    ensures { result ≡ due_header pace.header_size pace.timer state.now }
 {
     if parent_count(state) == 0 {
         return false;
     }
-    if timer == 1 {
+    if pace.timer == 1 {
         return true;
     }
-    header_size <= 32 * waiting_count(state) as u64
+    pace.header_size <= 32 * waiting_count(state) as u64
 }
 
 // Puts a count into the byte at a place.
@@ -76,8 +95,7 @@ pub fn clear(s: &mut [u8], at: usize, n: usize)
 }
 
 // The round after p, with n parents: zeros in all their places.
-pub fn next_round(state: &mut [u8], p: u64, n: usize)
-    requires state_len { length state.old ≡ 3366 }
+pub fn next_round(state: &mut [u8; STATE], p: u64, n: usize)
     requires p_bound { p ≤ 4294967294 }
     requires n_bound { n ≤ 32 }
     ensures { state.new ≡ next_round state.old p n }
@@ -88,8 +106,7 @@ pub fn next_round(state: &mut [u8], p: u64, n: usize)
 }
 
 // The round after p, with its parents in place of the old ones.
-pub fn advance(state: &mut [u8], p: u64, parents: &[u8])
-    requires state_len { length state.old ≡ 3366 }
+pub fn advance(state: &mut [u8; STATE], p: u64, parents: &[u8])
     requires p_bound { p ≤ 4294967294 }
     requires parents_len { length parents.now % 32 ≡ 0 }
     requires parents_len_bound { length parents.now / 32 ≤ 32 }
@@ -100,13 +117,11 @@ pub fn advance(state: &mut [u8], p: u64, parents: &[u8])
 }
 
 // A waiting digest more, at the end.
-pub fn add(state: &mut [u8], digest: &[u8], worker: u32)
-    requires state_len { length state.old ≡ 3366 }
-    requires digest_len { length digest.now ≡ 32 }
-    requires state_bound { waiting_count state.old < 64 }
+pub fn add(state: &mut [u8; STATE], digest: &[u8; 32], worker: u32)
+    requires { waiting_count state.old < 64 }
     ensures { state.new ≡ added state.old digest.now worker }
 {
-    let n = waiting_count(state);
+    let n = waiting_count(state) as usize;
     let place = 1062 + n * 36;
     wire::parts::put_bytes(state, place, digest);
     wire::numbers::put_u32(state, place + 32, worker);
@@ -114,8 +129,7 @@ pub fn add(state: &mut [u8], digest: &[u8], worker: u32)
 }
 
 // Parents and waiting digests emptied.
-pub fn empty(state: &mut [u8])
-    requires { length state.old ≡ 3366 }
+pub fn empty(state: &mut [u8; STATE])
     ensures { state.new ≡ emptied state.old }
 {
     clear(state, 36, 3330);

@@ -1,7 +1,8 @@
 // What a call answers: a value, or one of document 01's refusals.
 #![tactic(auto)]
 
-ghost use Rattle.std.specs.Prelude.{◌≡◌, ◌<◌, ◌^◌};
+ghost use Rattle.std.specs.Prelude.{◌≡◌, ◌≢◌, ◌<◌, ◌^◌, length, IfOk, IfErr, OnOk, OnErr};
+ghost use Rattle.refusal.specs.declared.Refusal.TheVariants.{BadShape};
 ghost use Rattle.refusal.specs.Answers.{number_of, value_of, code_of};
 
 // Document 01's refusals, each with its number.
@@ -46,4 +47,14 @@ pub fn code(answer: Result<u32, Refusal>) -> u64
     ensures { result ≡ code_of answer }
 {
     long_code(answer.map(|value| value as usize))
+}
+
+// A key or a digest; refused where there are more or fewer than 32 bytes.
+pub fn key(bytes: &[u8]) -> Result<&[u8; 32], Refusal>
+    ensures key { IfOk result (λ k. k.now ≡ bytes.now) }
+    ensures inside { OnOk result (length bytes.now ≡ 32) }
+    ensures refused { IfErr result (λ e. e ≡ BadShape) }
+    ensures outside { OnErr result (length bytes.now ≢ 32) }
+{
+    bytes.as_array().ok_or(Refusal::BadShape)
 }

@@ -4,14 +4,15 @@ use mathlib.Core.Bool.{Bool, true, false, not}
 use mathlib.Core.List.{List, []}
 use Prim.Native.Nat.{ℕ, ◌+◌, ◌*◌, ◌/◌, ◌≤◌}
 use native.Mathlib.Omega.{arith}
-use lib.Dec.{eqb, ltb}
+use lib.Dec.{ltb}
 use lib.ListN.{length}
 use borrow.Author.Tests.{not-true, not-false}
 use Rattle.wire.specs.Bytes.{part, alike, splice}
 use Rattle.wire.specs.Items.{items, item_in, first_of, has_part, keeps, all_of, flat}
-use Rattle.std.specs.Prelude.{Option, Some, None}
+use Rattle.std.specs.Prelude.{Option, Some, None, IfSome, IfNone, is_some}
+use Rattle.std.specs.Borrow.{Bor}
 use Rattle.wire.proofs.Laws.{part-all, length_part}
-use Rattle.wire.proofs.Lists.{found-is, found-fits}
+use Rattle.wire.proofs.Lists.{found-is, found-fits, found-length}
 use Rattle.table.specs.Rows.{count_of, places, shaped, rows_of}
 use Rattle.table.proofs.Laws.{found-row-is}
 use Rattle.genesis.specs.Genesis.{record_digest, records_of}
@@ -34,6 +35,9 @@ module _ (g k digest : List ℕ) (f : Option ℕ) (e : f ≡ first_of (has_part 
   pub genesis-fits : (i : ℕ) → f ≡ Some i → 0 + i * 68 + 68 ≤ length g
   genesis-fits i q = found-fits 68 (has_part 36 digest) g 0 (length g / 68) f i e q (omega arith)
 
+  pub genesis-long : (i : ℕ) (r : List ℕ) → f ≡ Some i → r ≡ item_in 68 g 0 i → length r ≡ 68
+  genesis-long i r q p = found-length 68 (has_part 36 digest) g 0 (length g / 68) f i e q (omega arith) r p
+
   pub parent-genesis : (i : ℕ) (r : List ℕ) → f ≡ Some i → r ≡ item_in 68 g 0 i → r ≡ parent_of (records_of g) (rows_of 68 k) digest
   unfolding parent_of record_in records_of
   parent-genesis i r q p =
@@ -44,13 +48,16 @@ module _ (g k digest : List ℕ) (f : Option ℕ) (e : f ≡ first_of (has_part 
     unfolding parent_of record_in
     parent-known i r s q p = found-row-is 68 (has_part 36 digest) k h i s d q r p ∙ sym (rw (sym in-genesis ∙ none, sym d ∙ q, record_in))
 
-    pub parent-none : h ≡ None → [] ≡ parent_of (records_of g) (rows_of 68 k) digest
+    pub parent-none : h ≡ None → parent_of (records_of g) (rows_of 68 k) digest ≡ []
     unfolding parent_of record_in
-    parent-none q = sym (rw (sym in-genesis ∙ none, sym d ∙ q, record_in))
+    parent-none q = rw (sym in-genesis ∙ none, sym d ∙ q, record_in)
 
-pub lacks-is : (gs ks : List (List ℕ)) (digest r : List ℕ) → r ≡ parent_of gs ks digest → eqb (length r) 0 ≡ lacks gs ks digest
-unfolding lacks
-lacks-is gs ks digest r e = rw e
+-- a parent is missing where the look-up answers none: a record that it answers has 68 bytes
+module _ (gs ks : List (List ℕ)) (digest : List ℕ) where
+  pub lacks-is : (f : Option (Bor (List ℕ))) (b : Bool) → IfSome f (λ r. r.now ≡ parent_of gs ks digest) → IfNone f (parent_of gs ks digest ≡ []) → IfSome f (λ r. length r.now ≡ 68) → is_some f ≡ not b → b ≡ lacks gs ks digest
+  unfolding lacks
+  lacks-is (Some r) b p n l q = not-true b (sym q) ∙ sym (rw (← p, l))
+  lacks-is None b p n l q = not-false b (sym q) ∙ sym (rw n)
 
 -- ---- the parents of a header, as items
 module _ (h : List ℕ) (n : ℕ) (s : header_shape h ≡ true) (e : n ≡ parent_count h) where
@@ -101,7 +108,7 @@ nothing : (out : List ℕ) → Picked [] out 0 out
 unfolding flat splice
 nothing out = record { count = refl; buffer = refl }
 
-pub author-long : (h a : List ℕ) → header_shape h ≡ true → a ≡ author_of h → length a ≡ 32
+author-long : (h a : List ℕ) → header_shape h ≡ true → a ≡ author_of h → length a ≡ 32
 unfolding author_of
 author-long h a s e = ap length e ∙ length_part h 32 32 (omega (arith, header-length h s))
 
@@ -134,6 +141,3 @@ module _ (k new digest : List ℕ) (f : Option ℕ) (d : digest ≡ record_diges
     pub is-new : not b ≡ false → Ok false ≡ learning k new
     unfolding learning
     is-new h = sym (rw (sym searched ∙ q, learning, sym r ∙ not-false b h, learning))
-
-pub author-reach : (h a : List ℕ) → header_shape h ≡ true → a ≡ author_of h → 0 + 32 ≤ length a
-author-reach h a s e = omega (arith, author-long h a s e)

@@ -1,8 +1,8 @@
 -- The laws of `specs/Answers.antt`. Assumes nothing.
 use mathlib.Core.Path.{◌≡◌, refl, sym, ap, ◌∙◌}
-use mathlib.Core.Bool.{Bool, true, false, not, ◌&&◌}
+use mathlib.Core.Bool.{Bool, true, false, not}
 use mathlib.Core.List.{List}
-use Prim.Native.Nat.{ℕ, ◌*◌, ◌%◌, ◌≤◌, ◌<◌}
+use Prim.Native.Nat.{ℕ, ◌%◌, ◌≤◌, ◌<◌}
 use native.Mathlib.Omega.{arith}
 use lib.Dec.{ltb}
 use lib.ListN.{length}
@@ -20,66 +20,76 @@ use Rattle.synchronizer.specs.Picked.{Picked}
 use Rattle.synchronizer.specs.Parents.{lacks, missing_parents, delivered}
 use Rattle.synchronizer.specs.Payload.{pairs_of, unpaired, missing_payload}
 use Rattle.synchronizer.specs.Known.{learning}
-use Rattle.synchronizer.specs.Answers.{shaped_as, out_as, lookable, missing_of, parents_answer, ParentsAnswer, deliver_answer, payload_shape, payload_answer, PayloadAnswer, learnable, learn_answer, learnt_table, LearnAnswer}
+use Rattle.synchronizer.specs.Answers.{shaped_as, out_as, lookable, unlookable, Looked, Unlooked, missing_of, parents_answer, ParentsAnswer, deliver_answer, payload_shape, payload_answer, PayloadAnswer, learnable, learn_answer, learnt_table, LearnAnswer}
 use Rattle.refusal.specs.Answers.{Answer}
 use Rattle.std.specs.Int.{from_bool}
 use Rattle.std.specs.Prelude.{Result, Ok, Err}
 use Rattle.refusal.specs.declared.Refusal.{Refusal}
 use Rattle.refusal.specs.declared.Refusal.TheVariants.{BadCommittee, BadShape}
 
--- a test of a header that said yes
-pub header-yes : (h : List ℕ) (b : Bool) → b ≡ header_shape h → not b ≡ false → header_shape h ≡ true
-header-yes h b e q = sym e ∙ not-false b q
-
--- ---- whether parents can be looked up, test by test
-module _ (ms g k h : List ℕ) (b : Bool) (e : b ≡ valid_genesis ms g) where
-  pub no-genesis : not b ≡ true → lookable ms g k h ≡ false
-  unfolding lookable
-  no-genesis q = rw (sym e ∙ not-true b q)
-
-  module _ (yes : not b ≡ false) (b' : Bool) (e' : b' ≡ shaped 68 k) where
-    pub no_table : not b' ≡ true → lookable ms g k h ≡ false
-    unfolding lookable
-    no_table q = rw (sym e ∙ not-false b yes, sym e' ∙ not-true b' q)
-
-    module _ (yes' : not b' ≡ false) (b'' : Bool) (e'' : b'' ≡ header_shape h) where
-      pub no_header : not b'' ≡ true → lookable ms g k h ≡ false
-      unfolding lookable
-      no_header q = rw (sym e ∙ not-false b yes, sym e' ∙ not-false b' yes', sym e'' ∙ not-true b'' q)
-
-      pub can-look : not b'' ≡ false → lookable ms g k h ≡ true
-      unfolding lookable
-      can-look q = rw (sym e ∙ not-false b yes, sym e' ∙ not-false b' yes', sym e'' ∙ not-false b'' q)
-
-pub first-no : (a x : Bool) → a ≡ false → a && x ≡ false
-first-no a x e = rw e
-
--- ---- parents
-module _ (ms g k h out : List ℕ) (b : Bool) (e : b ≡ valid_members ms) where
-  pub parents-committee : not b ≡ true → ParentsAnswer ms g k h out (Err BadCommittee) out
-  unfolding parents_answer out_as
-  parents-committee q =
+-- ---- what parents are looked up with, test by test
+module _ (ms g k h : List ℕ) (b : Bool) (e : b ≡ valid_members ms) where
+  pub look-committee : not b ≡ true → Unlooked ms g k h BadCommittee
+  unfolding unlookable
+  look-committee q =
       let v : valid_members ms ≡ false = sym e ∙ not-true b q in
-      record { answer = sym (rw (v, parents_answer)); buffer = sym (rw (v, out_as)) }
+      record { no = rw v; refusal = sym (rw (v, unlookable)) }
 
   module _ (yes : not b ≡ false) where
     valid : valid_members ms ≡ true
     valid = sym e ∙ not-false b yes
 
-    pub parents-shape : lookable ms g k h ≡ false → ParentsAnswer ms g k h out (Err BadShape) out
-    unfolding parents_answer out_as shaped_as
-    parents-shape q = record { answer = sym (rw (valid, q, parents_answer)); buffer = sym (rw (valid, q, out_as)) }
+    unlooked : lookable ms g k h ≡ false → Unlooked ms g k h BadShape
+    unfolding unlookable
+    unlooked q = record { no = rw (valid, q); refusal = sym (rw (valid, unlookable)) }
 
-    pub parents-out : lookable ms g k h ≡ true → (length out ≡ 1024 → ⊥) → ParentsAnswer ms g k h out (Err BadShape) out
-    unfolding parents_answer out_as shaped_as
-    parents-out q l = record { answer = sym (rw (valid, q, ne_eqb _ _ l, parents_answer)); buffer = sym (rw (valid, q, ne_eqb _ _ l, out_as)) }
+    module _ (b' : Bool) (e' : b' ≡ valid_genesis ms g) where
+      pub look-genesis : not b' ≡ true → Unlooked ms g k h BadShape
+      unfolding lookable
+      look-genesis q = unlooked (rw (sym e' ∙ not-true b' q))
 
-    pub parents-done : (m : ℕ) (out' : List ℕ) → lookable ms g k h ≡ true → length out ≡ 1024 → Picked (missing_parents (records_of g) (rows_of 68 k) (parents_of h)) out m out' → ParentsAnswer ms g k h out (Ok m) out'
-    unfolding parents_answer out_as shaped_as missing_of
-    parents-done m out' q l p =
+      module _ (yes' : not b' ≡ false) where
+        pub look-table : shaped 68 k ≡ false → Unlooked ms g k h BadShape
+        unfolding lookable
+        look-table q = unlooked (rw (sym e' ∙ not-false b' yes', q))
+
+        module _ (t : List ℕ) (s : shaped 68 t ≡ true) (et : t ≡ k) where
+          pub look-header : header_shape h ≡ false → Unlooked ms g k h BadShape
+          unfolding lookable
+          look-header q = unlooked (rw (sym e' ∙ not-false b' yes', ← et, s, q))
+
+          pub look-done : (u : List ℕ) → header_shape u ≡ true → u ≡ h → Looked ms g k h t u
+          unfolding lookable
+          look-done u q eu =
+              record { committee = valid; look = rw (sym e' ∙ not-false b' yes', ← et, s, ← eu, q); table = et; header = eu }
+
+-- ---- parents
+module _ (ms g k h out : List ℕ) where
+  pub parents_refused : (e : Refusal) → Unlooked ms g k h e → ParentsAnswer ms g k h out (Err e) out
+  unfolding parents_answer out_as shaped_as unlookable
+  parents_refused e u = rw u.refusal (go (valid_members ms) refl) where
+    go : (x : Bool) → valid_members ms ≡ x → ParentsAnswer ms g k h out (Err (unlookable ms)) out
+    go true v =
+        let q : lookable ms g k h ≡ false = rw v at u.no in
+        record { answer = sym (rw (v, q, parents_answer, unlookable)); buffer = sym (rw (v, q, out_as)) }
+    go false v = record { answer = sym (rw (v, parents_answer, unlookable)); buffer = sym (rw (v, out_as)) }
+
+  module _ (t b : List ℕ) (l : Looked ms g k h t b) where
+    pub parents-out : (length out ≡ 1024 → ⊥) → ParentsAnswer ms g k h out (Err BadShape) out
+    unfolding parents_answer out_as shaped_as
+    parents-out n =
         record {
-          answer = ap Ok p.count ∙ sym (rw (valid, q, eq-eqb _ _ l, parents_answer));
-          buffer = p.buffer ∙ sym (rw (valid, q, eq-eqb _ _ l, out_as));
+          answer = sym (rw (l.committee, l.look, ne_eqb _ _ n, parents_answer));
+          buffer = sym (rw (l.committee, l.look, ne_eqb _ _ n, out_as));
+        }
+
+    pub parents-done : (m : ℕ) (out' : List ℕ) → length out ≡ 1024 → Picked (missing_parents (records_of g) (rows_of 68 t) (parents_of b)) out m out' → ParentsAnswer ms g k h out (Ok m) out'
+    unfolding parents_answer out_as shaped_as missing_of
+    parents-done m out' n p =
+        let p' = rw (l.table, l.header) at p in
+        record {
+          answer = ap Ok p'.count ∙ sym (rw (l.committee, l.look, eq-eqb _ _ n, parents_answer));
+          buffer = p'.buffer ∙ sym (rw (l.committee, l.look, eq-eqb _ _ n, out_as));
         }
 
 pub few-missing : (gs ks : List (List ℕ)) (h out : List ℕ) (m : ℕ) (out' : List ℕ) → header_shape h ≡ true → Picked (missing_parents gs ks (parents_of h)) out m out' → m ≤ 32
@@ -88,23 +98,23 @@ few-missing gs ks h out m out' s p =
     omega (arith, p.count, keeps_fewer (lacks gs ks) (parents_of h), length-items 32 h 74 (parent_count h), header-parents h s)
 
 -- ---- delivery
-module _ (ms g k h : List ℕ) (b : Bool) (e : b ≡ valid_members ms) where
-  pub deliver-committee : not b ≡ true → (Err BadCommittee) ≡ deliver_answer ms g k h
-  unfolding deliver_answer
-  deliver-committee q = sym (rw (sym e ∙ not-true b q, deliver_answer))
+module _ (ms g k h : List ℕ) where
+  pub deliver_refused : (e : Refusal) → Unlooked ms g k h e → Err e ≡ deliver_answer ms g k h
+  unfolding deliver_answer shaped_as unlookable
+  deliver_refused e u = rw u.refusal (go (valid_members ms) refl) where
+    go : (x : Bool) → valid_members ms ≡ x → ◌≡◌ {A = Answer} (Err (unlookable ms)) (deliver_answer ms g k h)
+    go true v = let q : lookable ms g k h ≡ false = rw v at u.no in sym (rw (v, q, deliver_answer, unlookable))
+    go false v = sym (rw (v, deliver_answer, unlookable))
 
-  module _ (yes : not b ≡ false) where
-    pub deliver-shape : lookable ms g k h ≡ false → (Err BadShape) ≡ deliver_answer ms g k h
-    unfolding deliver_answer shaped_as
-    deliver-shape q = sym (rw (sym e ∙ not-false b yes, q, deliver_answer))
+  pub is-delivered : (t b : List ℕ) → Looked ms g k h t b → (d : Bool) → d ≡ delivered (records_of g) (rows_of 68 t) (parents_of b) → (n : ℕ) → n ≡ from_bool d → Ok n ≡ deliver_answer ms g k h
+  unfolding deliver_answer shaped_as
+  is-delivered t b l d ed n q = rw q (go d refl) where
+    ed' : d ≡ delivered (records_of g) (rows_of 68 k) (parents_of h)
+    ed' = rw (l.table, l.header) at ed
 
-    module _ (look : lookable ms g k h ≡ true) (d : Bool) (ed : d ≡ delivered (records_of g) (rows_of 68 k) (parents_of h)) where
-      pub is-delivered : (n : ℕ) → n ≡ from_bool d → Ok n ≡ deliver_answer ms g k h
-      unfolding deliver_answer shaped_as
-      is-delivered n q = rw q (go d refl) where
-        go : (x : Bool) → d ≡ x → ◌≡◌ {A = Answer} (Ok (from_bool x)) (deliver_answer ms g k h)
-        go true r = sym (rw (sym e ∙ not-false b yes, look, sym ed ∙ r, deliver_answer))
-        go false r = sym (rw (sym e ∙ not-false b yes, look, sym ed ∙ r, deliver_answer))
+    go : (x : Bool) → d ≡ x → ◌≡◌ {A = Answer} (Ok (from_bool x)) (deliver_answer ms g k h)
+    go true r = sym (rw (l.committee, l.look, sym ed' ∙ r, deliver_answer))
+    go false r = sym (rw (l.committee, l.look, sym ed' ∙ r, deliver_answer))
 
 -- ---- payload
 module _ (own pairs h out : List ℕ) where
@@ -121,22 +131,22 @@ module _ (own pairs h out : List ℕ) where
     unfolding payload_shape
     payload-pairs l = refuses (rw (eq-eqb _ _ lo, ne_eqb _ _ l))
 
-    module _ (lp : length pairs % 36 ≡ 0) (b : Bool) (e : b ≡ header_shape h) where
-      pub payload-header : not b ≡ true → PayloadAnswer own pairs h out (Err BadShape) out
+    module _ (lp : length pairs % 36 ≡ 0) where
+      pub payload-header : header_shape h ≡ false → PayloadAnswer own pairs h out (Err BadShape) out
       unfolding payload_shape
-      payload-header q = refuses (rw (eq-eqb _ _ lo, eq-eqb _ _ lp, sym e ∙ not-true b q))
+      payload-header q = refuses (rw (eq-eqb _ _ lo, eq-eqb _ _ lp, q))
 
-      module _ (yes : not b ≡ false) where
+      module _ (yes : header_shape h ≡ true) where
         pub payload-out : (length out ≡ 2304 → ⊥) → PayloadAnswer own pairs h out (Err BadShape) out
         unfolding payload_shape
-        payload-out l = refuses (rw (eq-eqb _ _ lo, eq-eqb _ _ lp, sym e ∙ not-false b yes, ne_eqb _ _ l))
+        payload-out l = refuses (rw (eq-eqb _ _ lo, eq-eqb _ _ lp, yes, ne_eqb _ _ l))
 
         pub payload-done : (m : ℕ) (out' : List ℕ) → length out ≡ 2304 → Picked (missing_payload own (pairs_of pairs) h) out m out' → PayloadAnswer own pairs h out (Ok m) out'
         unfolding payload_shape payload_answer out_as shaped_as
         payload-done m out' l p =
             record {
-              answer = ap Ok p.count ∙ sym (rw (eq-eqb _ _ lo, eq-eqb _ _ lp, sym e ∙ not-false b yes, eq-eqb _ _ l, payload_answer));
-              buffer = p.buffer ∙ sym (rw (eq-eqb _ _ lo, eq-eqb _ _ lp, sym e ∙ not-false b yes, eq-eqb _ _ l, out_as));
+              answer = ap Ok p.count ∙ sym (rw (eq-eqb _ _ lo, eq-eqb _ _ lp, yes, eq-eqb _ _ l, payload_answer));
+              buffer = p.buffer ∙ sym (rw (eq-eqb _ _ lo, eq-eqb _ _ lp, yes, eq-eqb _ _ l, out_as));
             }
 
 fewer-payload : (own h : List ℕ) (ps : List (List ℕ)) → header_shape h ≡ true → length (missing_payload own ps h) ≤ 64
@@ -157,40 +167,39 @@ module _ (k new : List ℕ) where
   unfolding learn_answer learnt_table shaped_as
   unlearnt q = record { answer = sym (rw (q, learn_answer)); table = sym (rw (q, learnt_table)) }
 
-  module _ (b : Bool) (e : b ≡ shaped 68 k) where
-    pub learn-table : not b ≡ true → LearnAnswer k new (Err BadShape) k
+  pub learn-table : shaped 68 k ≡ false → LearnAnswer k new (Err BadShape) k
+  unfolding learnable
+  learn-table q = unlearnt (rw q)
+
+  module _ (yes : shaped 68 k ≡ true) where
+    pub learn-long : (length new ≡ 68 → ⊥) → LearnAnswer k new (Err BadShape) k
     unfolding learnable
-    learn-table q = unlearnt (rw (sym e ∙ not-true b q))
+    learn-long l = unlearnt (rw (yes, ne_eqb _ _ l))
 
-    module _ (yes : not b ≡ false) where
-      pub learn-long : (length new ≡ 68 → ⊥) → LearnAnswer k new (Err BadShape) k
-      unfolding learnable
-      learn-long l = unlearnt (rw (sym e ∙ not-false b yes, ne_eqb _ _ l))
+    module _ (l : length new ≡ 68) (r : ℕ) (er : r ≡ word (part new 0 4)) where
+      pub learn-round : r ≡ 0 → LearnAnswer k new (Err BadShape) k
+      unfolding learnable record_round
+      learn-round z = unlearnt (rw (yes, eq-eqb _ _ l, eq-eqb (word (part new 0 4)) 0 (sym er ∙ z)))
 
-      module _ (l : length new ≡ 68) (r : ℕ) (er : r ≡ word (part new 0 4)) where
-        pub learn-round : r ≡ 0 → LearnAnswer k new (Err BadShape) k
+      module _ (z : r ≡ 0 → ⊥) (x : Result Bool Refusal) (ex : x ≡ learning k new) where
+        can : learnable k new ≡ true
         unfolding learnable record_round
-        learn-round z = unlearnt (rw (sym e ∙ not-false b yes, eq-eqb _ _ l, eq-eqb (word (part new 0 4)) 0 (sym er ∙ z)))
+        can = rw (yes, eq-eqb _ _ l, ne_eqb (word (part new 0 4)) 0 (λ q. z (er ∙ q)))
 
-        module _ (z : r ≡ 0 → ⊥) (x : Result Bool Refusal) (ex : x ≡ learning k new) where
-          can : learnable k new ≡ true
-          unfolding learnable record_round
-          can = rw (sym e ∙ not-false b yes, eq-eqb _ _ l, ne_eqb (word (part new 0 4)) 0 (λ q. z (er ∙ q)))
+        pub learn-known : x ≡ Ok true → LearnAnswer k new (Ok 0) k
+        unfolding learn_answer learnt_table shaped_as
+        learn-known q =
+            record { answer = sym (rw (can, sym ex ∙ q, learn_answer)); table = sym (rw (can, learnt_table, sym ex ∙ q, learnt_table)) }
 
-          pub learn-known : x ≡ Ok true → LearnAnswer k new (Ok 0) k
-          unfolding learn_answer learnt_table shaped_as
-          learn-known q =
-              record { answer = sym (rw (can, sym ex ∙ q, learn_answer)); table = sym (rw (can, learnt_table, sym ex ∙ q, learnt_table)) }
+        pub learn_refused : (r : Refusal) → x ≡ Err r → LearnAnswer k new (Err r) k
+        unfolding learn_answer learnt_table shaped_as
+        learn_refused r q =
+            record { answer = sym (rw (can, sym ex ∙ q, learn_answer)); table = sym (rw (can, learnt_table, sym ex ∙ q, learnt_table)) }
 
-          pub learn_refused : (r : Refusal) → x ≡ Err r → LearnAnswer k new (Err r) k
-          unfolding learn_answer learnt_table shaped_as
-          learn_refused r q =
-              record { answer = sym (rw (can, sym ex ∙ q, learn_answer)); table = sym (rw (can, learnt_table, sym ex ∙ q, learnt_table)) }
-
-          pub learn-new : (k' : List ℕ) → x ≡ Ok false → k' ≡ appended 68 k new → LearnAnswer k new (Ok 1) k'
-          unfolding learn_answer learnt_table shaped_as
-          learn-new k' q p =
-              record { answer = sym (rw (can, sym ex ∙ q, learn_answer)); table = p ∙ sym (rw (can, learnt_table, sym ex ∙ q, learnt_table)) }
+        pub learn-new : (k' : List ℕ) → x ≡ Ok false → k' ≡ appended 68 k new → LearnAnswer k new (Ok 1) k'
+        unfolding learn_answer learnt_table shaped_as
+        learn-new k' q p =
+            record { answer = sym (rw (can, sym ex ∙ q, learn_answer)); table = p ∙ sym (rw (can, learnt_table, sym ex ∙ q, learnt_table)) }
 
 -- a new record finds a place
 pub new-fits : (k new : List ℕ) (x : Result Bool Refusal) → x ≡ learning k new → x ≡ Ok false → count_of k < places 68 k

@@ -1,5 +1,5 @@
 -- What each question is answered, and what it leaves in the lent slices, for every input: document 01, 10, 11, then 12. Assumes nothing.
-use Rattle.std.specs.Prelude.{◌≡◌, Bool, true, false, ◌&&◌, not, List, ℕ, ◌+◌, ◌*◌, ◌%◌, eqb, length}
+use Rattle.std.specs.Prelude.{◌≡◌, Bool, true, false, ◌&&◌, not, List, ℕ, ◌%◌, eqb, length}
 use Rattle.wire.specs.Bytes.{splice}
 use Rattle.wire.specs.Items.{flat}
 use Rattle.table.specs.Rows.{shaped, rows_of, appended}
@@ -26,6 +26,21 @@ out_as b picks out = elim b [ true ↦ splice out 0 (flat picks) | false ↦ out
 -- genesis is the members', the known table is in shape, and so is the header
 unfoldable pub lookable : List ℕ → List ℕ → List ℕ → List ℕ → Bool
 lookable ms g k h = valid_genesis ms g && shaped 68 k && header_shape h
+
+-- what is refused where they are not: 10 before 11
+unfoldable pub unlookable : List ℕ → Refusal
+unlookable ms = elim (valid_members ms) [ true ↦ BadShape | false ↦ BadCommittee ]
+
+-- looked up with a table t and a header b, or refused
+pub record Looked (ms g k h t b : List ℕ) : Type 0 where
+  pub committee : valid_members ms ≡ true
+  pub look : lookable ms g k h ≡ true
+  pub table : t ≡ k
+  pub header : b ≡ h
+
+pub record Unlooked (ms g k h : List ℕ) (e : Refusal) : Type 0 where
+  pub no : valid_members ms && lookable ms g k h ≡ false
+  pub refusal : e ≡ unlookable ms
 
 unfoldable pub missing_of : List ℕ → List ℕ → List ℕ → List (List ℕ)
 missing_of g k h = missing_parents (records_of g) (rows_of 68 k) (parents_of h)

@@ -36,11 +36,8 @@ length-entry c h =
     let b = length-bytes 4 c.round in
     omega arith
 
-module _ (t : List ℕ) (n i : ℕ) (s : held_shape n t ≡ true) (few : n ≤ 32) (h : i < count_of t) where
-  pub index-small : (o : ℕ) → o ≡ (cert_at (held_of t) i).origin → o < 256
-  index-small o e = let l = origin-below n t i s h in omega arith
-
-  pub digest-long : (d : List ℕ) → d ≡ (cert_at (held_of t) i).digest → length d ≡ 32
+module _ (t : List ℕ) (n i : ℕ) (s : held_shape n t ≡ true) (h : i < count_of t) where
+  digest-long : (d : List ℕ) → d ≡ (cert_at (held_of t) i).digest → length d ≡ 32
   digest-long d e = ap length e ∙ digest-length t i (lawful-shape n t s) h
 
   module _ (list a b c d : List ℕ) (k o r : ℕ) (l : k * 37 + 37 ≤ length list) (eo : o ≡ (cert_at (held_of t) i).origin) (er : r ≡ (cert_at (held_of t) i).round) (ed : d ≡ (cert_at (held_of t) i).digest) where
@@ -54,6 +51,11 @@ module _ (t : List ℕ) (n i : ℕ) (s : held_shape n t ≡ true) (few : n ≤ 3
         let qb : b ≡ splice list (k * 37) w = eb ∙ ap (λ (v : List ℕ). splice v (k * 37 + 1) (bytes 4 r)) ea ∙ splice-next list (o ∷ []) (bytes 4 r) (k * 37) (k * 37 + 1) (omega arith) (omega arith) in
         let qc : c ≡ splice list (k * 37) (w ++ d) = ec ∙ ap (λ (v : List ℕ). splice v (k * 37 + 5) d) qb ∙ splice-next list w d (k * 37) (k * 37 + 5) (omega arith) (omega arith) in
         qc ∙ rw (eo, er, ed)
+
+-- ---- a place
+
+pub place-below : (xs : List ℕ) (m n k x : ℕ) → Below xs m n → k < m → x ≡ get_or xs k 0 → x < n
+place-below xs m n k x b l e = rw e (b.each k l)
 
 -- ---- the list
 
@@ -111,12 +113,6 @@ module _ (t places list : List ℕ) (n m at : ℕ) (s : held_shape n t ≡ true)
         e.is ∙ ap (λ (k : ℕ). splice list (at * 37) (entries_of (map (cert_at (held_of t)) (take k (numbers_of places))))) z
 
     module _ (l : i < m) where
-      pub entering-number : i * 8 + 8 ≤ length places
-      entering-number = omega arith
-
-      pub entering-place : (x : ℕ) → x ≡ get_or (numbers_of places) i 0 → x < count_of t
-      entering-place x ex = let b = low.each i l in omega arith
-
       pub entering-room : (at + i) * 37 + 37 ≤ length out
       entering-room = let z = e.same in omega arith
 
@@ -183,12 +179,6 @@ module _ (t places st : List ℕ) (n m : ℕ) (s : held_shape n t ≡ true) (ls 
         e.is ∙ ap (λ (k : ℕ). raise_all (map (cert_at (held_of t)) (take k (numbers_of places))) (lasts_of st)) z
 
     module _ (l : i < m) where
-      pub raising-number : i * 8 + 8 ≤ length places
-      raising-number = omega arith
-
-      pub raising-place : (x : ℕ) → x ≡ get_or (numbers_of places) i 0 → x < count_of t
-      raising-place x ex = let b = low.each i l in omega arith
-
       pub raising-next : (x : ℕ) (after : List ℕ) → x ≡ get_or (numbers_of places) i 0 → length after ≡ length out → lasts_of after ≡ raise (cert_at (held_of t) x) (lasts_of out) → Raising t places st n m after (i + 1)
       raising-next x after ex ez ea =
           let k = length-numbers places in

@@ -1,9 +1,8 @@
-use Rattle.held.proofs.Laws.{lawful-shape}
 use Rattle.dag.proofs.Listed.{listed-fits, listed-low, ordered}
 use Rattle.dag.proofs.order_dag.Goals as goal
 
 pub sort-requires : goal.sort-requires
-sort-requires c = record { table_value = search lawful-shape; m_in_bounds = search listed-fits; low = search listed-low }
+sort-requires c = record { m_in_bounds = search listed-fits; low = search listed-low }
 
 pub returns : goal.returns
 returns c = search ordered

@@ -1,6 +1,6 @@
 use native.Mathlib.Omega.{arith}
-use Rattle.held.proofs.Laws.{lawful-shape}
 use Rattle.held.specs.Rows.{cert_with}
+use Rattle.held.proofs.Laws.{lawful-shape}
 use Rattle.accept.proofs.Holding.{index-fits, u-long, u-few, u-walk, u-sort, u-link, u-list, u-used, u-opening, u-rooms, u-commits}
 use Rattle.accept.proofs.act.hold_and_commit.Goals as goal
 
@@ -10,7 +10,7 @@ overflow_cast-origin c = omega (arith, index-fits _ _ _ _ _ _ _ _ _ _ _ c.requir
 pub insert-requires : goal.insert-requires
 unfolding cert_with
 insert-requires c = let g = c.requires.given in
-    record { table_value = lawful-shape _ _ g.shape; table_value_2 = c.requires.opens.place; digest_len = g.digest; parents_len = g.whole; parents_len_bound = g.few }
+    record { table_value = lawful-shape _ _ g.shape; table_value_2 = c.requires.opens.place; parents_len = g.whole; parents_len_bound = g.few }
 
 pub count-w-requires : goal.count-w-requires
 unfolding cert_with

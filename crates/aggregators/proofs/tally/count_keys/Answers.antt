@@ -1,4 +1,4 @@
-use Rattle.aggregators.proofs.Weights.{weighing-start, weighing-fits, weighing-reach, weighing-key, weighing-next, weighing-done}
+use Rattle.aggregators.proofs.Weights.{weighing-start, weighing-fits, weighing-reach, weighing-next, weighing-done}
 use borrow.Author.Rules.{rules}
 use Rattle.aggregators.proofs.tally.count_keys.Goals as goal
 
@@ -8,11 +8,8 @@ loop-i-init c = search (rules, weighing-start)
 pub item-requires : goal.item-requires
 item-requires c = search weighing-fits
 
-pub key-requires : goal.key-requires
-key-requires c = search weighing-reach
-
-pub stake-stake-requires : goal.stake-stake-requires
-stake-stake-requires c = search weighing-key
+pub key-key-requires : goal.key-key-requires
+key-key-requires c = search weighing-reach
 
 pub loop-i-preserved : goal.loop-i-preserved
 loop-i-preserved c = search weighing-next

@@ -1,23 +1,73 @@
-use Rattle.checks.proofs.Laws.{is_true, certificate-10, certificate-11, certificate-11-id, certificate-11-signature, certificate-11-batch, certificate-found}
+use Rattle.std.proofs.lemmas.Result.{err_from_is_err_and}
+use Rattle.messages.proofs.Laws.{not-shaped}
+use Rattle.checks.proofs.Laws.{certificate-10, certificate-11, certificate-11-id, certificate-11-signature, certificate-11-batch, certificate-found}
 use Rattle.checks.proofs.certificate.certificate_check.Goals as goal
 
-pub returns-then-not-valid_members : goal.returns-then-not-valid_members
-returns-then-not-valid_members c = search certificate-10
+pub returns-in_err-committee : goal.returns-in_err-committee
+returns-in_err-committee c =
+    let p = err_from_is_err_and c.from_residual.result c.from_residual.ensures.1 in
+    let e = c.in_err-committee.ensures in
+    let o = e.outside in
+    rw (p.1, p.2, e.refused) (search certificate-10)
 
-pub returns-then-not-shape : goal.returns-then-not-shape
-returns-then-not-shape c = search certificate-11
+pub returns-in_err-certificate : goal.returns-in_err-certificate
+returns-in_err-certificate c =
+    let p = err_from_is_err_and c.from_residual-in_err-certificate.result c.from_residual-in_err-certificate.ensures.1 in
+    let m = c.in_ok-committee.ensures.members in
+    let v = c.in_ok-committee.committee.valid in
+    let e = c.in_err-certificate.ensures in
+    let o = not-shaped _ e.ok.1 in
+    rw (p.1, p.2, e.err) (search certificate-11)
 
-pub returns-then-id_ok-gt1 : goal.returns-then-id_ok-gt1
-returns-then-id_ok-gt1 c = search certificate-11-id
+pub returns-in_err-id_ok : goal.returns-in_err-id_ok
+returns-in_err-id_ok c =
+    let p = err_from_is_err_and c.from_residual-in_err-id_ok.result c.from_residual-in_err-id_ok.ensures.1 in
+    let m = c.in_ok-committee.ensures.members in
+    let v = c.in_ok-committee.committee.valid in
+    let s = c.in_ok-certificate.certificate.shape in
+    let e = c.in_ok-certificate.ensures.is in
+    let r = c.in_err-id_ok.ensures in
+    let o = r.outside in
+    rw (p.1, p.2, r.refused) (search certificate-11-id)
 
-pub returns-then-sig_ok-gt1 : goal.returns-then-sig_ok-gt1
-returns-then-sig_ok-gt1 c = search certificate-11-signature
+pub returns-in_err-sig_ok : goal.returns-in_err-sig_ok
+returns-in_err-sig_ok c =
+    let p = err_from_is_err_and c.from_residual-in_err-sig_ok.result c.from_residual-in_err-sig_ok.ensures.1 in
+    let m = c.in_ok-committee.ensures.members in
+    let v = c.in_ok-committee.committee.valid in
+    let s = c.in_ok-certificate.certificate.shape in
+    let e = c.in_ok-certificate.ensures.is in
+    let id-in = c.in_ok-id_ok.ensures.inside in
+    let id-is = c.in_ok-id_ok.ensures.value in
+    let r = c.in_err-sig_ok.ensures in
+    let o = r.outside in
+    rw (p.1, p.2, r.refused) (search certificate-11-signature)
 
-pub returns-then-batch_ok-gt1 : goal.returns-then-batch_ok-gt1
-returns-then-batch_ok-gt1 c = search certificate-11-batch
-
-pub certificate_checks-requires : goal.certificate_checks-requires
-certificate_checks-requires c = search is_true
+pub returns-in_err-batch_ok : goal.returns-in_err-batch_ok
+returns-in_err-batch_ok c =
+    let p = err_from_is_err_and c.from_residual-in_err-batch_ok.result c.from_residual-in_err-batch_ok.ensures.1 in
+    let m = c.in_ok-committee.ensures.members in
+    let v = c.in_ok-committee.committee.valid in
+    let s = c.in_ok-certificate.certificate.shape in
+    let e = c.in_ok-certificate.ensures.is in
+    let id-in = c.in_ok-id_ok.ensures.inside in
+    let id-is = c.in_ok-id_ok.ensures.value in
+    let sig-in = c.in_ok-sig_ok.ensures.inside in
+    let sig-is = c.in_ok-sig_ok.ensures.value in
+    let r = c.in_err-batch_ok.ensures in
+    let o = r.outside in
+    rw (p.1, p.2, r.refused) (search certificate-11-batch)
 
 pub returns : goal.returns
-returns c = search certificate-found
+returns c =
+    let m = c.in_ok-committee.ensures.members in
+    let v = c.in_ok-committee.committee.valid in
+    let s = c.in_ok-certificate.certificate.shape in
+    let e = c.in_ok-certificate.ensures.is in
+    let id-in = c.in_ok-id_ok.ensures.inside in
+    let id-is = c.in_ok-id_ok.ensures.value in
+    let sig-in = c.in_ok-sig_ok.ensures.inside in
+    let sig-is = c.in_ok-sig_ok.ensures.value in
+    let batch-in = c.in_ok-batch_ok.ensures.inside in
+    let batch-is = c.in_ok-batch_ok.ensures.value in
+    search certificate-found

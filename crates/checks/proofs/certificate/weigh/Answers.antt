@@ -1,10 +1,6 @@
-use Rattle.messages.proofs.Laws.{certificate-length}
-use Rattle.checks.proofs.Votes.{weighing-start, weighing-fits, weighing-before, weighing-key, weighing-whole, weighing-reused, weighing-unknown, weighing-next, weighing-done}
+use Rattle.checks.proofs.Votes.{weighing-start, weighing-fits, weighing-before, weighing-whole, weighing-reused, weighing-unknown, weighing-next, weighing-done}
 use borrow.Author.Rules.{rules}
 use Rattle.checks.proofs.certificate.weigh.Goals as goal
-
-pub vote_count-n-requires : goal.vote_count-n-requires
-vote_count-n-requires c = search certificate-length
 
 pub loop-i-init : goal.loop-i-init
 loop-i-init c = search (rules, weighing-start)
@@ -17,9 +13,6 @@ find-requires c = search (rules, weighing-before, weighing-whole)
 
 pub returns-in_default : goal.returns-in_default
 returns-in_default c = search weighing-reused
-
-pub stake-rights-requires : goal.stake-rights-requires
-stake-rights-requires c = search weighing-key
 
 pub returns-then-rights-eq0 : goal.returns-then-rights-eq0
 returns-then-rights-eq0 c = search weighing-unknown

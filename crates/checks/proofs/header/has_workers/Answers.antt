@@ -1,12 +1,8 @@
 use Rattle.std.proofs.Common.{rules, arith}
 use borrow.Author.Tests.{tests}
 use Rattle.wire.proofs.Chains.{all-passed, yields-items}
-use Rattle.messages.proofs.Laws.{header-length}
 use Rattle.checks.proofs.Laws.{payload-fits, workers-are}
 use Rattle.checks.proofs.header.has_workers.Goals as goal
-
-pub payload_count-n-requires : goal.payload_count-n-requires
-payload_count-n-requires c = search header-length
 
 pub items-requires-clause-in_bounds : goal.items-requires-clause-in_bounds
 items-requires-clause-in_bounds c = search payload-fits

@@ -1,15 +1,8 @@
-use Rattle.messages.proofs.Laws.{header-length}
-use Rattle.checks.proofs.Laws.{author-32, id_wrong, author-unknown, workers-unknown, signature-wrong, header-good}
+use Rattle.checks.proofs.Laws.{id_wrong, author-unknown, workers-unknown, signature-wrong, header-good}
 use Rattle.checks.proofs.header.header_checks.Goals as goal
 
 pub returns-then-not-id_ok : goal.returns-then-not-id_ok
 returns-then-not-id_ok c = search id_wrong
-
-pub author-requires : goal.author-requires
-author-requires c = search header-length
-
-pub stake-requires : goal.stake-requires
-stake-requires c = search author-32
 
 pub returns-then-stake-eq0 : goal.returns-then-stake-eq0
 returns-then-stake-eq0 c = search author-unknown

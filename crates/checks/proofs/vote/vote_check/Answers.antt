@@ -1,17 +1,41 @@
-use Rattle.checks.proofs.Laws.{is_true, vote-10, vote-11, vote-11-signature, vote-found}
+use Rattle.std.proofs.lemmas.Result.{err_from_is_err_and}
+use Rattle.messages.proofs.Laws.{not-shaped}
+use Rattle.checks.proofs.Laws.{vote-10, vote-11, vote-11-signature, vote-found}
 use Rattle.checks.proofs.vote.vote_check.Goals as goal
 
-pub returns-then-not-valid_members : goal.returns-then-not-valid_members
-returns-then-not-valid_members c = search vote-10
+pub returns-in_err-committee : goal.returns-in_err-committee
+returns-in_err-committee c =
+    let p = err_from_is_err_and c.from_residual.result c.from_residual.ensures.1 in
+    let e = c.in_err-committee.ensures in
+    let o = e.outside in
+    rw (p.1, p.2, e.refused) (search vote-10)
 
-pub returns-then-not-shape : goal.returns-then-not-shape
-returns-then-not-shape c = search vote-11
+pub returns-in_err-vote : goal.returns-in_err-vote
+returns-in_err-vote c =
+    let p = err_from_is_err_and c.from_residual-in_err-vote.result c.from_residual-in_err-vote.ensures.1 in
+    let m = c.in_ok-committee.ensures.members in
+    let v = c.in_ok-committee.committee.valid in
+    let e = c.in_err-vote.ensures in
+    let o = not-shaped _ e.ok.1 in
+    rw (p.1, p.2, e.err) (search vote-11)
 
-pub returns-then-sig_ok-gt1 : goal.returns-then-sig_ok-gt1
-returns-then-sig_ok-gt1 c = search vote-11-signature
-
-pub vote_checks-requires : goal.vote_checks-requires
-vote_checks-requires c = search is_true
+pub returns-in_err-sig_ok : goal.returns-in_err-sig_ok
+returns-in_err-sig_ok c =
+    let p = err_from_is_err_and c.from_residual-in_err-sig_ok.result c.from_residual-in_err-sig_ok.ensures.1 in
+    let m = c.in_ok-committee.ensures.members in
+    let v = c.in_ok-committee.committee.valid in
+    let s = c.in_ok-vote.vote.shape in
+    let e = c.in_ok-vote.ensures.is in
+    let r = c.in_err-sig_ok.ensures in
+    let o = r.outside in
+    rw (p.1, p.2, r.refused) (search vote-11-signature)
 
 pub returns : goal.returns
-returns c = search vote-found
+returns c =
+    let m = c.in_ok-committee.ensures.members in
+    let v = c.in_ok-committee.committee.valid in
+    let s = c.in_ok-vote.vote.shape in
+    let e = c.in_ok-vote.ensures.is in
+    let sig-in = c.in_ok-sig_ok.ensures.inside in
+    let sig-is = c.in_ok-sig_ok.ensures.value in
+    search vote-found

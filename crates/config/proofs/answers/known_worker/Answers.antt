@@ -1,17 +1,14 @@
-use Rattle.config.proofs.Replies.{no_member, worker-fits, worker-reach, worker-few, worker-yes, worker-no}
+use Rattle.config.proofs.Replies.{no_member, worker-fits, worker-reach, worker-few, worker-is}
 use Rattle.config.proofs.answers.known_worker.Goals as goal
 
 pub returns-in_default : goal.returns-in_default
 returns-in_default c = search no_member
 
-pub item-requires : goal.item-requires
-item-requires c = search worker-fits
+pub item-row-requires : goal.item-row-requires
+item-row-requires c = let v = c.args.committee.now.valid in search worker-fits
 
 pub has_worker-requires : goal.has_worker-requires
-has_worker-requires c = search (worker-reach, worker-few)
-
-pub returns-then-has_worker : goal.returns-then-has_worker
-returns-then-has_worker c = search worker-yes
+has_worker-requires c = let v = c.args.committee.now.valid in search (worker-reach, worker-few)
 
 pub returns : goal.returns
-returns c = search worker-no
+returns c = let v = c.args.committee.now.valid in search worker-is

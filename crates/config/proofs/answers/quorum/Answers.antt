@@ -1,14 +1,15 @@
-use Rattle.config.proofs.Replies.{is-valid, bad-members, good-members, done}
+use Rattle.std.proofs.lemmas.Result.{err_from_is_err_and}
+use Rattle.config.proofs.Replies.{bad_members, good-members, done}
 use Rattle.config.specs.Answers.{quorum_answer}
 use Rattle.config.proofs.answers.quorum.Goals as goal
 
-pub returns-then-not-valid_members : goal.returns-then-not-valid_members
+pub returns-in_err-new : goal.returns-in_err-new
 unfolding quorum_answer
-returns-then-not-valid_members c = search bad-members
-
-pub quorum_threshold-requires : goal.quorum_threshold-requires
-quorum_threshold-requires c = search is-valid
+returns-in_err-new c =
+    let p = err_from_is_err_and c.from_residual.result c.from_residual.ensures.1 in
+    let e = c.in_err-new.ensures in
+    rw (p.1, p.2) (bad_members _ _ _ e.refused e.outside)
 
 pub returns : goal.returns
 unfolding quorum_answer
-returns c = search (good-members, done)
+returns c = let m = c.in_ok-new.ensures.members in let v = c.in_ok-new.field-0.valid in rw (← m) (good-members _ _ _ v (done _ _ c.quorum_threshold.ensures))

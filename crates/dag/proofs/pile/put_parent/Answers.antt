@@ -1,16 +1,19 @@
 use borrow.Author.Rules.{rules}
-use Rattle.held.proofs.Laws.{lawful-shape}
-use Rattle.dag.proofs.Piling.{digest-long, parent-out, parent-last, parent-open}
+use Rattle.held.proofs.Laws.{some-place, no-place, place-within}
+use Rattle.dag.proofs.Piling.{parent-out, parent-last, parent-open}
 use Rattle.dag.proofs.pile.put_parent.Goals as goal
 
-pub find-j-requires : goal.find-j-requires
-find-j-requires c = search (rules, lawful-shape, digest-long)
+pub returns-in_default : goal.returns-in_default
+returns-in_default c = search (parent-out, no-place)
 
-pub returns-then-marks-j : goal.returns-then-marks-j
-returns-then-marks-j c = search parent-out
+pub put_new-requires : goal.put_new-requires
+put_new-requires c = search (rules, place-within)
+
+pub is_last-requires : goal.is_last-requires
+is_last-requires c = search (rules, place-within)
 
 pub returns-then-is_last : goal.returns-then-is_last
-returns-then-is_last c = search parent-last
+returns-then-is_last c = search (parent-last, some-place, place-within)
 
 pub returns : goal.returns
-returns c = search parent-open
+returns c = search (parent-open, some-place, place-within)

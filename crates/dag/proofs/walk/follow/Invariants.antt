@@ -4,8 +4,8 @@ use Rattle.consensus.proofs.Marks.{ones}
 use Rattle.dag.proofs.Going.{Going}
 use Rattle.dag.proofs.walk.follow.Given as goal
 
-abbrev pub invariant-loop-h : goal.invariant-loop-h
-invariant-loop-h l = Going l.state l.table l.depth l.top l.initial.pile l.height l.initial.marks l.initial.out l.pile l.marks l.out l.h l.m
+abbrev pub invariant-loop-pile : goal.invariant-loop-pile
+invariant-loop-pile l = Going l.state.last.now l.state.held.table.now l.depth l.top l.initial.pile.bytes.now l.initial.pile.height l.initial.pile.marks.now l.initial.out l.pile.bytes.now l.pile.marks.now l.out l.pile.height l.m
 
-abbrev pub decreases-loop-h : goal.decreases-loop-h
-decreases-loop-h l = count_of l.table + l.h - ones l.marks
+abbrev pub decreases-loop-pile : goal.decreases-loop-pile
+decreases-loop-pile l = count_of l.state.held.table.now + l.pile.height - ones l.pile.marks.now

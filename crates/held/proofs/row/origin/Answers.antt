@@ -4,8 +4,11 @@ use mathlib.Core.Path.{refl}
 use Rattle.held.proofs.row.origin.Goals as goal
 
 pub overflow_cast-result : goal.overflow_cast-result
-overflow_cast-result c = omega (arith, c.shared_slice_known-1.given 4)
+overflow_cast-result c = omega (arith, c.type_inv.row 4)
 
-pub returns : goal.returns
+pub returns-clause-value : goal.returns-clause-value
 unfolding origin_in
-returns c = refl
+returns-clause-value c = refl
+
+pub returns-clause-byte : goal.returns-clause-byte
+returns-clause-byte c = omega (arith, c.type_inv.row 4)

@@ -4,7 +4,7 @@ use mathlib.Core.Path.{refl}
 use Rattle.held.proofs.row.parent_count.Goals as goal
 
 pub overflow_cast-result : goal.overflow_cast-result
-overflow_cast-result c = omega (arith, c.shared_slice_known-1.given 5)
+overflow_cast-result c = omega (arith, c.type_inv.row 5)
 
 pub returns : goal.returns
 unfolding parent_count

@@ -1,10 +1,6 @@
 use borrow.Author.Rules.{rules}
-use Rattle.leaders.proofs.Agreeing.{held-long}
 use Rattle.leaders.proofs.Following.{marking-start, marking-below, marking-fits, marking-next, marking-done}
 use Rattle.leaders.proofs.link.follow.Goals as goal
-
-pub count-count-requires : goal.count-count-requires
-count-count-requires c = search (rules, held-long)
 
 pub loop-i-init : goal.loop-i-init
 loop-i-init c = search marking-start

@@ -1,8 +1,8 @@
-use mathlib.Core.Path.{refl}
+use Rattle.std.proofs.lemmas.Result.{MatchResult-at_ok}
 use Rattle.wire.specs.Bytes.{part}
 use Rattle.messages.specs.Certificate.{digest_of}
 use Rattle.messages.proofs.certificate.digest.Goals as goal
 
 pub returns : goal.returns
 unfolding digest_of part
-returns c = refl
+returns c = (MatchResult-at_ok _ _ _ c.unwrap.ensures c.try_into.ensures.1).same

@@ -1,8 +1,8 @@
-use mathlib.Core.Path.{refl}
+use Rattle.std.proofs.lemmas.Result.{MatchResult-at_ok}
 use Rattle.wire.specs.Bytes.{part}
 use Rattle.messages.specs.Certificate.{header_of}
 use Rattle.messages.proofs.certificate.header.Goals as goal
 
 pub returns : goal.returns
 unfolding header_of part
-returns c = refl
+returns c = (MatchResult-at_ok _ _ _ c.unwrap.ensures c.try_into.ensures.1).same

@@ -1,4 +1,4 @@
-use Rattle.messages.proofs.Writing.{filling-same, filling-done, payload-start, payload-end, payload-long, payload-next}
+use Rattle.messages.proofs.Writing.{filling-same, filling-done, payload-start, payload-end, payload-next}
 use borrow.Author.Rules.{rules}
 use Rattle.messages.proofs.strings.write_payload.Goals as goal
 
@@ -7,9 +7,6 @@ loop-i-init c = search (rules, payload-start)
 
 pub slice_bounds-write_item-end : goal.slice_bounds-write_item-end
 slice_bounds-write_item-end c = search payload-end
-
-pub write_item-requires : goal.write_item-requires
-write_item-requires c = search (rules, payload-long)
 
 pub loop-i-preserved : goal.loop-i-preserved
 loop-i-preserved c = search (rules, payload-next)

@@ -1,8 +1,11 @@
+use mathlib.Core.Path.{ap, ◌∙◌}
+use lib.ListN.{length}
+use Rattle.std.proofs.lemmas.Option.{MatchOption-at_some, MatchOption-at_none}
 use Rattle.messages.proofs.Laws.{vote-long, vote-last}
 use Rattle.messages.proofs.vote.shape.Goals as goal
 
-pub returns-then-vote-ne-VOTE : goal.returns-then-vote-ne-VOTE
-returns-then-vote-ne-VOTE c = search vote-long
+pub returns-in_default : goal.returns-in_default
+returns-in_default c = vote-long _ (MatchOption-at_none _ _ c.in_default.is c.as_array.ensures.cases)
 
 pub returns : goal.returns
-returns c = search vote-last
+returns c = let f = MatchOption-at_some _ _ _ c.in-Some.is c.as_array.ensures.cases in let l = ap length f.same ∙ f.long in rw (← f.same) (search vote-last)

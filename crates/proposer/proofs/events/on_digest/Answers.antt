@@ -1,25 +1,17 @@
 use Rattle.proposer.proofs.Outcomes.{digest-short, digest-worker, digest-full, digest-taken, digest-state}
-use Rattle.proposer.proofs.Values.{state-size, state-long}
-use borrow.Author.Rules.{rules}
 use Rattle.proposer.proofs.events.on_digest.Goals as goal
 
-pub returns-then-digest-ne32 : goal.returns-then-digest-ne32
-returns-then-digest-ne32 c = search digest-short
+pub returns-in_default : goal.returns-in_default
+returns-in_default c = digest-short _ _ _ _ _ _ c.in_default.ensures.cases
 
 pub returns-then-worker-gt4294967295 : goal.returns-then-worker-gt4294967295
-returns-then-worker-gt4294967295 c = search digest-worker
-
-pub waiting_count-requires : goal.waiting_count-requires
-waiting_count-requires c = search state-long
+returns-then-worker-gt4294967295 c = let w = c.in-Some.ensures.cases in search digest-worker
 
 pub returns-then-waiting_count-ge64 : goal.returns-then-waiting_count-ge64
-returns-then-waiting_count-ge64 c = search digest-full
-
-pub add-requires : goal.add-requires
-add-requires c = record { state_len = search state-size; digest_len = search rules; state_bound = search rules }
+returns-then-waiting_count-ge64 c = let w = c.in-Some.ensures.cases in search digest-full
 
 pub settle-requires : goal.settle-requires
-settle-requires c = record { state_value = search digest-state; header_len = search rules }
+settle-requires c = let w = c.in-Some.ensures.cases in search digest-state
 
 pub returns : goal.returns
-returns c = search digest-taken
+returns c = let w = c.in-Some.ensures.cases in search digest-taken

@@ -1,26 +1,19 @@
-use Rattle.proposer.proofs.Values.{few-parents, few-waiting}
-use Rattle.proposer.proofs.Making.{parents-fit, waiting-fit, header_is}
-use Rattle.proposer.proofs.Values.{state-size, state-long}
+use Rattle.proposer.proofs.Values.{is_state}
+use Rattle.proposer.proofs.Making.{parents-long, waiting-long, header_is}
 use native.Mathlib.Omega.{arith}
-use borrow.Author.Rules.{rules}
 use Rattle.proposer.proofs.header.fill_header.Goals as goal
 
-pub put_head-requires : goal.put_head-requires
-put_head-requires c = search (rules, state-size)
+pub parents-requires : goal.parents-requires
+parents-requires c = (is_state _ c.requires).parents
 
-pub parent_count-requires : goal.parent_count-requires
-parent_count-requires c = search state-long
+pub put_list-requires-clause-src_in_bounds : goal.put_list-requires-clause-src_in_bounds
+put_list-requires-clause-src_in_bounds c = omega (arith, parents-long _ c.requires _ c.parents.ensures)
 
-pub put_list-requires : goal.put_list-requires
-put_list-requires c = let l = few-parents c.args.state.now c.requires.state_value _ c.parent_count.ensures in
-    record { size_in_bounds = search parents-fit; size_in_bounds_2 = omega arith; le_size = search rules; count_at_in_bounds = search rules; n_bound = omega arith }
+pub waiting-requires : goal.waiting-requires
+waiting-requires c = (is_state _ c.requires).waiting
 
-pub waiting_count-requires : goal.waiting_count-requires
-waiting_count-requires c = search state-long
-
-pub put_list-requires-2 : goal.put_list-requires-2
-put_list-requires-2 c = let l = few-waiting c.args.state.now c.requires.state_value _ c.waiting_count.ensures in
-    record { size_in_bounds = search waiting-fit; size_in_bounds_2 = omega arith; le_size = search rules; count_at_in_bounds = search rules; n_bound = omega arith }
+pub put_list-requires-2-clause-src_in_bounds : goal.put_list-requires-2-clause-src_in_bounds
+put_list-requires-2-clause-src_in_bounds c = omega (arith, waiting-long _ c.requires _ c.parents.ensures _ c.waiting.ensures)
 
 pub returns : goal.returns
 returns c = search header_is

@@ -1,9 +1,8 @@
 use Rattle.proposer.proofs.Making.{list-few, list-is}
-use borrow.Author.Rules.{rules}
 use Rattle.proposer.proofs.header.put_list.Goals as goal
 
-pub put_count-requires : goal.put_count-requires
-put_count-requires c = search (rules, list-few)
+pub put_count-requires-clause-n_bound : goal.put_count-requires-clause-n_bound
+put_count-requires-clause-n_bound c = search list-few
 
 pub returns : goal.returns
 returns c = search list-is

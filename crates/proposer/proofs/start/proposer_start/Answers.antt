@@ -1,27 +1,69 @@
-use Rattle.proposer.proofs.Beginning.{start-no, start-own, start-stranger, start-shape, start-made, start-long, start-room, start-few, state-started}
-use borrow.Author.Rules.{rules}
+use mathlib.Core.Path.{refl}
+use Rattle.std.proofs.lemmas.Result.{err_from_is_err_and}
+use Rattle.proposer.proofs.Beginning.{start-no, start-own, start-stranger, start-pace, start-state, start-header, start-genesis, start-few, start-valid, start-made}
 use Rattle.proposer.proofs.start.proposer_start.Goals as goal
 
 pub returns-then-not-valid_members : goal.returns-then-not-valid_members
 returns-then-not-valid_members c = search start-no
 
-pub returns-then-own-ne32 : goal.returns-then-own-ne32
-returns-then-own-ne32 c = search start-own
-
 pub returns-in_default : goal.returns-in_default
-returns-in_default c = search start-stranger
+returns-in_default c = let w = c.in_default.ensures.cases in search start-own
 
-pub returns-then-not-is_start : goal.returns-then-not-is_start
-returns-then-not-is_start c = search start-shape
+pub returns-in_default-standing_of : goal.returns-in_default-standing_of
+returns-in_default-standing_of c = let o = c.in-Some.ensures.cases in search start-stranger
+
+pub returns-in_err-pace : goal.returns-in_err-pace
+returns-in_err-pace c =
+    let p = err_from_is_err_and c.from_residual.result c.from_residual.ensures.1 in
+    let o = c.in-Some.ensures.cases in
+    let a = c.in_err-pace.ensures in
+    let b = a.ok.1 in
+    rw (p.1, p.2, a.err) (search start-pace)
+
+pub returns-in_default-as_mut_array : goal.returns-in_default-as_mut_array
+returns-in_default-as_mut_array c =
+    let o = c.in-Some.ensures.cases in
+    let a = c.in_ok-pace.ensures.ok.0 refl in
+    let w = c.in_default-as_mut_array.ensures.cases in
+    search start-state
+
+pub returns-in_default-as_mut_array-2 : goal.returns-in_default-as_mut_array-2
+returns-in_default-as_mut_array-2 c =
+    let o = c.in-Some.ensures.cases in
+    let a = c.in_ok-pace.ensures.ok.0 refl in
+    let s = c.in-Some-as_mut_array.ensures.cases in
+    let w = c.in_default-as_mut_array-2.ensures.cases in
+    search start-header
+
+pub returns-then-not-valid_genesis : goal.returns-then-not-valid_genesis
+returns-then-not-valid_genesis c =
+    let o = c.in-Some.ensures.cases in
+    let a = c.in_ok-pace.ensures.ok.0 refl in
+    let s = c.in-Some-as_mut_array.ensures.cases in
+    let h = c.in-Some-as_mut_array-2.ensures.cases in
+    search start-genesis
 
 pub start_state-requires : goal.start_state-requires
-start_state-requires c = let e = c.is_start.ensures in
-    record { own_len = search rules; genesis_len_bound = start-few _ _ _ _ _ _ _ e c.if-not-is_start.false-raw _ c.valid_members.ensures c.if-not-valid_members.false-raw; state_len = start-long _ _ _ _ _ _ _ e c.if-not-is_start.false-raw }
+start_state-requires c =
+    let o = c.in-Some.ensures.cases in
+    let a = c.in_ok-pace.ensures.ok.0 refl in
+    let s = c.in-Some-as_mut_array.ensures.cases in
+    let h = c.in-Some-as_mut_array-2.ensures.cases in
+    search start-few
 
 pub settle-requires : goal.settle-requires
-settle-requires c = let e = c.is_start.ensures in
-    let f = start-few _ _ _ _ _ _ _ e c.if-not-is_start.false-raw _ c.valid_members.ensures c.if-not-valid_members.false-raw in
-    record { state_value = state-started _ c.if-own-ne32.false _ _ f c.start_state.ensures; header_len = start-room _ _ _ _ _ _ _ e c.if-not-is_start.false-raw }
+settle-requires c =
+    let o = c.in-Some.ensures.cases in
+    let a = c.in_ok-pace.ensures.ok.0 refl in
+    let s = c.in-Some-as_mut_array.ensures.cases in
+    let h = c.in-Some-as_mut_array-2.ensures.cases in
+    search start-valid
 
 pub returns : goal.returns
-returns c = search start-made
+returns c =
+    let o = c.in-Some.ensures.cases in
+    let a = c.in_ok-pace.ensures.ok.0 refl in
+    let s = c.in-Some-as_mut_array.ensures.cases in
+    let h = c.in-Some-as_mut_array-2.ensures.cases in
+    let q = c.in_ok-pace.ensures.is in
+    search start-made

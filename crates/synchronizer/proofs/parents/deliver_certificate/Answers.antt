@@ -1,13 +1,9 @@
 use Rattle.std.proofs.Common.{rules, arith}
 use borrow.Author.Tests.{tests}
-use Rattle.messages.proofs.Laws.{header-length}
 use Rattle.wire.proofs.Chains.{all-passed, yields-items}
 use Rattle.synchronizer.specs.Parents.{has}
 use Rattle.synchronizer.proofs.Laws.{parents-fit, deliver-is}
 use Rattle.synchronizer.proofs.parents.deliver_certificate.Goals as goal
-
-pub parent_count-n-requires : goal.parent_count-n-requires
-parent_count-n-requires c = search header-length
 
 pub items-requires-clause-in_bounds : goal.items-requires-clause-in_bounds
 items-requires-clause-in_bounds c = search parents-fit

@@ -1,20 +1,13 @@
-use Rattle.messages.proofs.Laws.{header-length}
-use Rattle.synchronizer.proofs.Picking.{picking-item, picking-room, picking-next}
+use Rattle.synchronizer.proofs.Picking.{picking-room, picking-next}
 use Rattle.synchronizer.proofs.Laws.{batches-start, batches-done}
 use borrow.Author.Rules.{rules}
 use Rattle.synchronizer.proofs.payload.missing_of.Goals as goal
 
-pub payload_count-n-requires : goal.payload_count-n-requires
-payload_count-n-requires c = search header-length
-
 pub loop-i-init : goal.loop-i-init
 loop-i-init c = search (rules, batches-start)
 
-pub is_unpaired-missing-requires : goal.is_unpaired-missing-requires
-is_unpaired-missing-requires c = search (rules, picking-item)
-
 pub put_if-m-requires : goal.put_if-m-requires
-put_if-m-requires c = search (rules, picking-item, picking-room)
+put_if-m-requires c = search (rules, picking-room)
 
 pub loop-i-preserved : goal.loop-i-preserved
 loop-i-preserved c = search (rules, picking-next)

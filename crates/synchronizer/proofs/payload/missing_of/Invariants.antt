@@ -5,4 +5,4 @@ use Rattle.synchronizer.proofs.Picking.{Picking}
 use Rattle.synchronizer.proofs.payload.missing_of.Given as goal
 
 abbrev pub invariant-loop-i : goal.invariant-loop-i
-invariant-loop-i l = (l.n ≡ payload_count l.header) × Picking 36 (unpaired (pairs_of l.pairs)) l.header 1098 l.n l.initial.out l.out l.i l.m
+invariant-loop-i l = (l.n ≡ payload_count l.bytes) × Picking 36 (unpaired (pairs_of l.pairs)) l.bytes 1098 l.n l.initial.out l.out l.i l.m

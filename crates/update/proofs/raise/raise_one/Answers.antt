@@ -1,13 +1,5 @@
-use borrow.Author.Rules.{rules}
 use Rattle.update.proofs.Laws.{raise-fits, raise-higher, raise-not}
-use Rattle.held.proofs.Laws.{lawful-shape}
 use Rattle.update.proofs.raise.raise_one.Goals as goal
-
-pub origin_at-o-requires : goal.origin_at-o-requires
-origin_at-o-requires c = search (rules, lawful-shape)
-
-pub round_at-r-requires : goal.round_at-r-requires
-round_at-r-requires c = search (rules, lawful-shape)
 
 pub last_of-requires : goal.last_of-requires
 last_of-requires c = search raise-fits

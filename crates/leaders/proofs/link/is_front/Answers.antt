@@ -1,8 +1,0 @@
-use Rattle.leaders.proofs.Linking.{front-unmarked, front-marked}
-use Rattle.leaders.proofs.link.is_front.Goals as goal
-
-pub returns-then-marks-i-eq0 : goal.returns-then-marks-i-eq0
-returns-then-marks-i-eq0 c = search front-unmarked
-
-pub returns : goal.returns
-returns c = search front-marked

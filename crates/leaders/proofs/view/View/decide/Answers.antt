@@ -1,0 +1,49 @@
+use Rattle.leaders.proofs.Deciding.{kind-even, kind-early, kind-old, kind-absent, kind-empty, kind-weak, kind-alone, kind-whole, kind-hole}
+use Rattle.held.proofs.Laws.{no-place}
+use Rattle.leaders.proofs.view.View.decide.Goals as goal
+
+pub returns-then-round-ne1 : goal.returns-then-round-ne1
+returns-then-round-ne1 c = search kind-even
+
+pub returns-then-round-lt5 : goal.returns-then-round-lt5
+returns-then-round-lt5 c = search kind-early
+
+pub returns-then-round-top : goal.returns-then-round-top
+returns-then-round-top c = search kind-old
+
+pub returns-in_default : goal.returns-in_default
+returns-in_default c = search (kind-absent, no-place)
+
+pub returns-then-not-has_round : goal.returns-then-not-has_round
+returns-then-not-has_round c =
+    let ep = c.in-Some.ensures.value in
+    let hp = c.in-Some.ensures.within in
+    search kind-empty
+
+pub returns-then-not-is_supported : goal.returns-then-not-is_supported
+returns-then-not-is_supported c =
+    let ep = c.in-Some.ensures.value in
+    let hp = c.in-Some.ensures.within in
+    search kind-weak
+
+pub returns-in_default-lowest_round : goal.returns-in_default-lowest_round
+returns-in_default-lowest_round c =
+    let ep = c.in-Some.ensures.value in
+    let hp = c.in-Some.ensures.within in
+    search (kind-alone, no-place)
+
+pub returns-then-is_unbroken : goal.returns-then-is_unbroken
+returns-then-is_unbroken c =
+    let ep = c.in-Some.ensures.value in
+    let hp = c.in-Some.ensures.within in
+    let eq = c.in-Some-lowest_round.ensures.value in
+    let hq = c.in-Some-lowest_round.ensures.floor in
+    search kind-whole
+
+pub returns : goal.returns
+returns c =
+    let ep = c.in-Some.ensures.value in
+    let hp = c.in-Some.ensures.within in
+    let eq = c.in-Some-lowest_round.ensures.value in
+    let hq = c.in-Some-lowest_round.ensures.floor in
+    search kind-hole
