@@ -73,7 +73,7 @@ impl<'s, 'h> View<'s, 'h> {
     {
         let low = low.max(1);
         (0..self.held.len())
-            .filter_map(|i| self.candidate_round(i, low, r)) // each from low up
+            .filter_map(|i| self.candidate_round(i, low, r))
             .min()
     }
 }

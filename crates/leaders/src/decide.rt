@@ -32,7 +32,8 @@ impl<'s, 'h> View<'s, 'h> {
         if !self.is_supported(round - 2, self.held.digest_at(p)) {
             return Ok(false);
         }
-        let Some(q) = self.lowest_round(top + 2, round - 4) else {
+        let lowest = self.lowest_round(top + 2, round - 4);
+        let Some(q) = lowest else {
             return Ok(true); // alone
         };
         if crate::link::is_unbroken(&self.held, q, round - 3) {

@@ -10,7 +10,7 @@ pub returns-in_err-setup : goal.returns-in_err-setup
 returns-in_err-setup c =
     let p = err_from_is_err_and c.from_residual.result c.from_residual.ensures.1 in
     let e = c.in_err-setup.ensures in
-    rw (p.1, p.2) (start_refused _ _ _ _ _ e.refused e.outside)
+    rw (p.1, p.2) (search start_refused)
 
 pub returns-then-not-is_start : goal.returns-then-not-is_start
 returns-then-not-is_start c =

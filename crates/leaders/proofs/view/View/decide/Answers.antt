@@ -26,8 +26,8 @@ returns-then-not-is_supported c =
     let hp = c.in-Some.ensures.within in
     search kind-weak
 
-pub returns-in_default-lowest_round : goal.returns-in_default-lowest_round
-returns-in_default-lowest_round c =
+pub returns-in_default-lowest : goal.returns-in_default-lowest
+returns-in_default-lowest c =
     let ep = c.in-Some.ensures.value in
     let hp = c.in-Some.ensures.within in
     search (kind-alone, no-place)
@@ -36,14 +36,14 @@ pub returns-then-is_unbroken : goal.returns-then-is_unbroken
 returns-then-is_unbroken c =
     let ep = c.in-Some.ensures.value in
     let hp = c.in-Some.ensures.within in
-    let eq = c.in-Some-lowest_round.ensures.value in
-    let hq = c.in-Some-lowest_round.ensures.floor in
+    let eq = rw c.in-Some-lowest.is at c.lowest_round-lowest.ensures.value in
+    let hq = rw c.in-Some-lowest.is at c.lowest_round-lowest.ensures.floor in
     search kind-whole
 
 pub returns : goal.returns
 returns c =
     let ep = c.in-Some.ensures.value in
     let hp = c.in-Some.ensures.within in
-    let eq = c.in-Some-lowest_round.ensures.value in
-    let hq = c.in-Some-lowest_round.ensures.floor in
+    let eq = rw c.in-Some-lowest.is at c.lowest_round-lowest.ensures.value in
+    let hq = rw c.in-Some-lowest.is at c.lowest_round-lowest.ensures.floor in
     search kind-hole
