@@ -1,5 +1,5 @@
 -- Which refusal, or what is to be done, step by step. Assumes nothing.
-use mathlib.Core.Path.{◌≡◌, sym, ◌∙◌}
+use mathlib.Core.Path.{◌≡◌, refl, sym, ◌∙◌}
 use mathlib.Core.Bool.{Bool, true, false, not, ◌||◌}
 use mathlib.Core.List.{List}
 use Prim.Native.Nat.{ℕ, ◌<◌, ◌≤◌}
@@ -23,15 +23,23 @@ use Rattle.refusal.specs.declared.Refusal.TheVariants.{NoRoom, DigestClash}
 
 -- ---- a place for it
 
-pub place-there : (t : List ℕ) (o r : ℕ) (f : Option ℕ) (b : Bool) → unwrap_or f (count_of t) ≡ pair_place o r (held_of t) → IfSome f (λ i. i < count_of t) → b ≡ is_some f → b ≡ true
-    → true ≡ (ltb (pair_place o r (held_of t)) (count_of t) || ltb (count_of t) (places 1062 t))
-place-there t o r None b e w h q = absurd (true-not-false (sym q ∙ h))
-place-there t o r (Some i) b e w h q = let z : pair_place o r (held_of t) < count_of t = omega arith in sym (rw (lt-ltb (pair_place o r (held_of t)) (count_of t) z))
+module _ (t : List ℕ) (o r i n : ℕ) (ei : i ≡ pair_place o r (held_of t)) (en : n ≡ count_of t) where
+  pub place-there : i < n → true ≡ (ltb (pair_place o r (held_of t)) (count_of t) || ltb (count_of t) (places 1062 t))
+  place-there h = sym (rw (lt-ltb (pair_place o r (held_of t)) (count_of t) (omega arith)))
 
-pub place-free : (t : List ℕ) (o r : ℕ) (f : Option ℕ) (b c : Bool) → unwrap_or f (count_of t) ≡ pair_place o r (held_of t) → b ≡ is_some f → b ≡ false → c ≡ ltb (count_of t) (places 1062 t)
+  pub place-free : (b : Bool) → n ≤ i → b ≡ ltb (count_of t) (places 1062 t) → b ≡ (ltb (pair_place o r (held_of t)) (count_of t) || ltb (count_of t) (places 1062 t))
+  place-free b h e = e ∙ sym (rw (le-ltb (pair_place o r (held_of t)) (count_of t) (omega arith)))
+
+-- the place that is told; where none is told, the definition says how many are held
+pub told-there : (t : List ℕ) (o r : ℕ) (f : Option ℕ) (b : Bool) → unwrap_or f (count_of t) ≡ pair_place o r (held_of t) → IfSome f (λ i. i < count_of t) → b ≡ is_some f → b ≡ true
+    → true ≡ (ltb (pair_place o r (held_of t)) (count_of t) || ltb (count_of t) (places 1062 t))
+told-there t o r None b e w h q = absurd (true-not-false (sym q ∙ h))
+told-there t o r (Some i) b e w h q = place-there t o r i (count_of t) e refl w
+
+pub told-free : (t : List ℕ) (o r : ℕ) (f : Option ℕ) (b c : Bool) → unwrap_or f (count_of t) ≡ pair_place o r (held_of t) → b ≡ is_some f → b ≡ false → c ≡ ltb (count_of t) (places 1062 t)
     → c ≡ (ltb (pair_place o r (held_of t)) (count_of t) || ltb (count_of t) (places 1062 t))
-place-free t o r None b c e h q g = let z : count_of t ≤ pair_place o r (held_of t) = omega arith in g ∙ sym (rw (le-ltb (pair_place o r (held_of t)) (count_of t) z))
-place-free t o r (Some i) b c e h q g = absurd (true-not-false (sym h ∙ q))
+told-free t o r None b c e h q g = place-free t o r (count_of t) (count_of t) e refl c (omega arith) g
+told-free t o r (Some i) b c e h q g = absurd (true-not-false (sym h ∙ q))
 
 -- ---- the course
 

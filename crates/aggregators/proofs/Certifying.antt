@@ -26,12 +26,12 @@ use Rattle.aggregators.proofs.Giving.{length-empty, count-empty}
 
 -- ---- the tests of shape, one after the other
 module _ (t : List ℕ) (round : ℕ) (origin digest out : List ℕ) where
-  shape-counts : are_counts t ≡ false → certificate_shape t round origin digest out ≡ false
+  pub shape-counts : are_counts t ≡ false → certificate_shape t round origin digest out ≡ false
   unfolding certificate_shape
   shape-counts e = rw e
 
   module _ (e : are_counts t ≡ true) where
-    shape-round : leb 1 round && leb round 4294967295 ≡ false → certificate_shape t round origin digest out ≡ false
+    pub shape-round : leb 1 round && leb round 4294967295 ≡ false → certificate_shape t round origin digest out ≡ false
     unfolding certificate_shape
     shape-round l = rw e (go (leb 1 round) (leb round 4294967295) l) where
       go : (a b : Bool) → a && b ≡ false → true && a && b && eqb (length origin) 32 && eqb (length digest) 32 && eqb (length out) 1024 ≡ false
@@ -46,21 +46,21 @@ module _ (t : List ℕ) (round : ℕ) (origin digest out : List ℕ) where
       high : leb round 4294967295 ≡ true
       high = (both _ _ l).1
 
-      shape-origin : (length origin ≡ 32 → ⊥) → certificate_shape t round origin digest out ≡ false
+      pub shape-origin : (length origin ≡ 32 → ⊥) → certificate_shape t round origin digest out ≡ false
       unfolding certificate_shape
       shape-origin p = rw (e, low, high, ne_eqb (length origin) 32 p)
 
       module _ (p : length origin ≡ 32) where
-        shape-digest : (length digest ≡ 32 → ⊥) → certificate_shape t round origin digest out ≡ false
+        pub shape-digest : (length digest ≡ 32 → ⊥) → certificate_shape t round origin digest out ≡ false
         unfolding certificate_shape
         shape-digest q = rw (e, low, high, eq-eqb (length origin) 32 p, ne_eqb (length digest) 32 q)
 
         module _ (q : length digest ≡ 32) where
-          shape-out : (length out ≡ 1024 → ⊥) → certificate_shape t round origin digest out ≡ false
+          pub shape-out : (length out ≡ 1024 → ⊥) → certificate_shape t round origin digest out ≡ false
           unfolding certificate_shape
           shape-out o = rw (e, low, high, eq-eqb (length origin) 32 p, eq-eqb (length digest) 32 q, ne_eqb (length out) 1024 o)
 
-          shape-right : length out ≡ 1024 → certificate_shape t round origin digest out ≡ true
+          pub shape-right : length out ≡ 1024 → certificate_shape t round origin digest out ≡ true
           unfolding certificate_shape
           shape-right o = rw (e, low, high, eq-eqb (length origin) 32 p, eq-eqb (length digest) 32 q, eq-eqb (length out) 1024 o)
 
@@ -192,34 +192,34 @@ module _ (ms t : List ℕ) (round : ℕ) (origin digest out : List ℕ) where
     lawful : valid_members ms ≡ true
     lawful = ap valid_members (sym m) ∙ v
 
-    misshapen : certificate_shape t round origin digest out ≡ false → CountsCertificate ms t round origin digest out (Err BadShape) t out
+    pub cert-shape : certificate_shape t round origin digest out ≡ false → CountsCertificate ms t round origin digest out (Err BadShape) t out
     unfolding count_certificate stay
-    misshapen f =
+    cert-shape f =
         let z : count_certificate ms t round origin digest out ≡ stay (Err BadShape) t out = rw (lawful, count_certificate, f, count_certificate) in
         record { answer = rw z; counts = rw z; buffer = rw z }
 
     pub cert-table : (r : Refusal) → r ≡ BadShape → are_counts t ≡ false → CountsCertificate ms t round origin digest out (Err r) t out
-    cert-table r e f = rw e (misshapen (shape-counts t round origin digest out f))
+    cert-table r e f = rw e (cert-shape (shape-counts t round origin digest out f))
 
     module _ (a : are_counts t ≡ true) where
       module _ (n : Bool) (w : n ≡ (leb 1 round && leb round 4294967295)) where
         pub cert-round : n ≡ false → CountsCertificate ms t round origin digest out (Err BadShape) t out
-        cert-round f = misshapen (shape-round t round origin digest out a (sym w ∙ f))
+        cert-round f = cert-shape (shape-round t round origin digest out a (sym w ∙ f))
 
         module _ (y : n ≡ true) where
           l : leb 1 round && leb round 4294967295 ≡ true
           l = sym w ∙ y
 
           pub cert-origin : (r : Refusal) → r ≡ BadShape → (length origin ≡ 32 → ⊥) → CountsCertificate ms t round origin digest out (Err r) t out
-          cert-origin r e f = rw e (misshapen (shape-origin t round origin digest out a l f))
+          cert-origin r e f = rw e (cert-shape (shape-origin t round origin digest out a l f))
 
           module _ (lo : length origin ≡ 32) where
             pub cert-digest : (r : Refusal) → r ≡ BadShape → (length digest ≡ 32 → ⊥) → CountsCertificate ms t round origin digest out (Err r) t out
-            cert-digest r e f = rw e (misshapen (shape-digest t round origin digest out a l lo f))
+            cert-digest r e f = rw e (cert-shape (shape-digest t round origin digest out a l lo f))
 
             module _ (ld : length digest ≡ 32) where
               pub cert-out : (length out ≡ 1024 → ⊥) → CountsCertificate ms t round origin digest out (Err BadShape) t out
-              cert-out f = misshapen (shape-out t round origin digest out a l lo ld f)
+              cert-out f = cert-shape (shape-out t round origin digest out a l lo ld f)
 
               module _ (b : length out ≡ 1024) (t' origin' : List ℕ) (e : t' ≡ t) (f : origin' ≡ origin) (p : Result Place Refusal) (k : p ≡ place_for t' round origin') where
                 right : certificate_shape t round origin digest out ≡ true

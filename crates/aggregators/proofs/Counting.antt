@@ -13,6 +13,7 @@ use Rattle.std.specs.Prelude.{Option, Some, None}
 use Rattle.wire.proofs.Lists.{length-items, length-keys, all-at}
 use Rattle.table.specs.Rows.{count_of, places, shaped, rows_of, round_of}
 use Rattle.table.proofs.Laws.{is-table, row_below, row_is, row-length}
+use Rattle.config.specs.Committee.{valid_members}
 use Rattle.config.proofs.Laws.{both}
 use Rattle.aggregators.specs.Weight.{quorum_in, stake_by, is_in, enough, weight_after, gathered_after, reached}
 use Rattle.aggregators.specs.Tallies.{fresh, tally_after, digests}
@@ -22,7 +23,7 @@ use Rattle.aggregators.specs.declared.tally.Tally.{Tally}
 use Rattle.std.specs.Prelude.{Ok, Err}
 use Rattle.refusal.specs.declared.Refusal.TheVariants.{NoRoom}
 use Rattle.aggregators.specs.declared.rounds.Place.TheVariants.{Counted, Row, New}
-use Rattle.aggregators.proofs.Weights.{weight_is, from_is, gathered-is, length-digests}
+use Rattle.aggregators.proofs.Weights.{weight_is, weight-small, from_is, gathered-is, length-digests}
 
 -- ---- rows
 pub few-is : (row : List ℕ) (n : ℕ) → n ≡ pair_count row → leb n 32 ≡ few_pairs row
@@ -130,6 +131,9 @@ module _ (ms row : List ℕ) (l : length row ≡ 2053) (h : pair_count row < 32)
     weight : r.weight ≡ weight_after (quorum_in ms) (stake_by ms) (keys (pairs_of row)) 0
     unfolding pairs_of listed
     weight = ap (λ (z : Tally). z.weight) f ∙ weight_is (quorum_in ms) (stake_by ms) (keys (items 64 row 5 n)) 0 fresh ∙ rw e
+
+    pub gives-small : valid_members ms ≡ true → r.weight ≤ 4294967295
+    gives-small v = rw weight (weight-small ms (keys (pairs_of row)) v)
 
     -- the digests gathered are those of the pairs from the place on
     pub gives-gathered : digests (drop r.from (items 64 row 5 n)) ≡ gathered ms row

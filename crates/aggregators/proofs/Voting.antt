@@ -21,7 +21,7 @@ use Rattle.refusal.specs.declared.Refusal.{Refusal}
 use Rattle.std.specs.Int.{from_bool}
 use Rattle.std.specs.Prelude.{Ok, Err}
 use Rattle.refusal.specs.declared.Refusal.TheVariants.{BadCommittee, BadShape, AuthorityReuse, NoRoom}
-use Rattle.aggregators.proofs.Weights.{keys-same, weight_is}
+use Rattle.aggregators.proofs.Weights.{keys-same, weight_is, weight-small}
 
 -- ---- the shape of voters
 pub shape-length : (t : List ℕ) → (length t ≡ 1025 → ⊥) → false ≡ are_voters t
@@ -67,6 +67,10 @@ module _ (t : List ℕ) (h : are_voters t ≡ true) where
       voter-put u f = rw (f, e)
 
 -- ---- the weight
+pub votes-small : (ms t : List ℕ) (w : ℕ) → valid_members ms ≡ true → w ≡ votes_weight ms t → w ≤ 4294967295
+unfolding votes_weight
+votes-small ms t w h e = rw e (weight-small ms (voters_of t) h)
+
 pub vote-reaches : (ms t author : List ℕ) (w : ℕ) (b : Bool) → w ≡ votes_weight ms t → b ≡ enough (quorum_in ms) w (stake_by ms author) → b ≡ vote_reaches ms t author
 unfolding votes_weight vote_reaches reached
 vote-reaches ms t author w b e f = f ∙ rw e

@@ -8,13 +8,14 @@ use native.Mathlib.Omega.{arith}
 use lib.Dec.{leb}
 use lib.ListN.{length, get_or, drop, drop_of_length-le, length-append}
 use lib.Seq.{drop-cons, drop-append-le, append_snoc}
-use borrow.Author.Tests.{le-leb, lt-leb}
+use borrow.Author.Tests.{le-leb, lt-leb, leb-false}
 use Rattle.wire.specs.Items.{items, item_in, first_of, has_part, key_of, keys}
 use Rattle.std.specs.Prelude.{Option, Some, None}
 use Rattle.wire.proofs.Laws.{part-all}
 use Rattle.wire.proofs.Lists.{Sized, none, one, item-fits, item-is, item-length, length-items}
 use Rattle.config.specs.Members.{members_of}
-use Rattle.config.specs.Committee.{total, quorum, stake_of}
+use Rattle.config.specs.Committee.{total, quorum, stake_of, valid_members}
+use Rattle.config.proofs.Laws.{valid-weight}
 use Rattle.aggregators.specs.Weight.{quorum_in, stake_by, is_in, enough, weighed, weight_after, held, digest_of, gathered_after}
 use Rattle.aggregators.specs.Tallies.{fresh, counted, tally_after, digests}
 use Rattle.aggregators.specs.declared.tally.Tally.{Tally}
@@ -144,6 +145,25 @@ from-go q stake (k ∷ ks) i t h = let r = from-go q stake ks (suc i) (counted q
 
 pub from_is : (q : ℕ) (stake : List ℕ → ℕ) (ks : List (List ℕ)) → (tally_after q stake ks 0 fresh).from ≤ length ks
 from_is q stake ks = let r = from-go q stake ks 0 fresh (omega arith) in omega arith
+
+-- ---- the weight stays below quorum
+weighed-below : (q w s : ℕ) → w < q → weighed q w s < q
+unfolding weighed enough
+weighed-below q w s h = go (leb q (w + s)) refl where
+  go : (b : Bool) → leb q (w + s) ≡ b → weighed q w s < q
+  go true e = rw (e, weighed) (omega arith)
+  go false e = rw (e, weighed) (leb-false q (w + s) e)
+
+weight-below : (q : ℕ) (stake : List ℕ → ℕ) (ks : List (List ℕ)) (w : ℕ) → w < q → weight_after q stake ks w < q
+unfolding weight_after
+weight-below q stake [] w h = h
+weight-below q stake (k ∷ ks) w h = weight-below q stake ks (weighed q w (stake k)) (weighed-below q w (stake k) h)
+
+pub weight-small : (ms : List ℕ) (ks : List (List ℕ)) → valid_members ms ≡ true → weight_after (quorum_in ms) (stake_by ms) ks 0 ≤ 4294967295
+unfolding quorum
+weight-small ms ks h =
+    let l = weight-below (quorum_in ms) (stake_by ms) ks 0 (omega arith) in
+    omega (arith, valid-weight ms (total (members_of ms)) h refl)
 
 -- ---- quorum reached
 pub enough-is : (ms key : List ℕ) (w q s : ℕ) → q ≡ quorum (total (members_of ms)) → s ≡ stake_of (members_of ms) key → leb q (w + s) ≡ enough (quorum_in ms) w (stake_by ms key)

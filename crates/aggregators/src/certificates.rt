@@ -5,7 +5,7 @@ ghost use Rattle.wire.specs.Items.{items, flat};
 ghost use Rattle.table.specs.Rows.{count_of, places, shaped, rows_of, appended, with_row};
 ghost use Rattle.aggregators.specs.Weight.{digest_of};
 ghost use Rattle.aggregators.specs.Tallies.{digests};
-ghost use Rattle.aggregators.specs.Certificates.{pair_count, with_pair, empty_row, given, last_digests, Gives, CountsIn, CountsCertificate};
+ghost use Rattle.aggregators.specs.Certificates.{pair_count, with_pair, empty_row, given, last_digests, certificate_shape, Gives, CountsIn, CountsCertificate};
 
 use crate::rounds::{Counts, Open, PAIR, PAIRS, Place, ROW};
 use config::committee::Committee;
@@ -145,6 +145,24 @@ fn is_round(round: u64) -> bool
     ensures { result ≡ leb 1 round && leb round 4294967295 }
 {
     1 <= round && round <= 4294967295
+}
+
+// Whether all but the members is in shape.
+#[tactic(auto, unfolding(crate::specs::Certificates::certificate_shape))]
+pub fn certificate_shape(
+    counts: &[u8],
+    round: u64,
+    origin: &[u8],
+    digest: &[u8],
+    out: &[u8],
+) -> bool
+    ensures { result ≡ certificate_shape counts.now round origin.now digest.now out.now }
+{
+    crate::rounds::counts_shape(counts)
+        && is_round(round)
+        && origin.len() == 32
+        && digest.len() == 32
+        && out.len() == 1024
 }
 
 // Counts a certificate in its round: how many digests are given, at the front of out.

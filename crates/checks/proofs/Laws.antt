@@ -141,6 +141,9 @@ looked : (t t' : Bool) (r x : Answer) → t ≡ true → t' ≡ true → r ≡ x
 unfolding ensure
 looked t t' r x e f g = rw (e, f) g
 
+pub is_true : (b x : Bool) → b ≡ x → not b ≡ false → x ≡ true
+is_true b x e n = sym e ∙ not-false b n
+
 valid-still : (ms ms' : List ℕ) → valid_members ms' ≡ true → ms' ≡ ms → valid_members ms ≡ true
 valid-still ms ms' v m = rw (← m) v
 
@@ -154,19 +157,19 @@ module _ (ms h : List ℕ) (id_ok sig_ok : ℕ) where
     unfolding header_check
     header-11 n = misshapen _ _ _ (valid-still ms ms' w m) (rw n)
 
+    pub header-11-id : 1 < id_ok → (Err BadShape) ≡ header_check ms h id_ok sig_ok
+    unfolding header_check
+    header-11-id l = misshapen _ _ _ (valid-still ms ms' w m) (simp (lt-leb id_ok 1 l, and-false))
+
+    pub header-11-signature : 1 < sig_ok → (Err BadShape) ≡ header_check ms h id_ok sig_ok
+    unfolding header_check
+    header-11-signature l = misshapen _ _ _ (valid-still ms ms' w m) (simp (lt-leb sig_ok 1 l, and-false))
+
     module _ (h' : List ℕ) (s : header_shape h' ≡ true) (e : h' ≡ h) where
       header-still : header_shape h ≡ true
       header-still = rw (← e) s
 
-      pub header-11-id : 1 < id_ok → (Err BadShape) ≡ header_check ms h id_ok sig_ok
-      unfolding header_check
-      header-11-id l = misshapen _ _ _ (valid-still ms ms' w m) (simp (lt-leb id_ok 1 l, and-false))
-
       module _ (l0 : id_ok ≤ 1) (b0 : Bool) (e0 : b0 ≡ eqb id_ok 1) where
-        pub header-11-signature : 1 < sig_ok → (Err BadShape) ≡ header_check ms h id_ok sig_ok
-        unfolding header_check
-        header-11-signature l = misshapen _ _ _ (valid-still ms ms' w m) (simp (lt-leb sig_ok 1 l, and-false))
-
         module _ (l1 : sig_ok ≤ 1) (b1 : Bool) (e1 : b1 ≡ eqb sig_ok 1) where
           pub header-found : (r : Answer) → r ≡ header_checks (members_of ms') h' b0 b1 → r ≡ header_check ms h id_ok sig_ok
           unfolding header_check
@@ -182,13 +185,13 @@ module _ (ms v : List ℕ) (sig_ok : ℕ) where
     unfolding vote_check
     vote-11 n = misshapen _ _ _ (valid-still ms ms' w m) (rw n)
 
+    pub vote-11-signature : 1 < sig_ok → (Err BadShape) ≡ vote_check ms v sig_ok
+    unfolding vote_check
+    vote-11-signature l = misshapen _ _ _ (valid-still ms ms' w m) (simp (lt-leb sig_ok 1 l, and-false))
+
     module _ (v' : List ℕ) (s : vote_shape v' ≡ true) (e : v' ≡ v) where
       vote-still : vote_shape v ≡ true
       vote-still = rw (← e) s
-
-      pub vote-11-signature : 1 < sig_ok → (Err BadShape) ≡ vote_check ms v sig_ok
-      unfolding vote_check
-      vote-11-signature l = misshapen _ _ _ (valid-still ms ms' w m) (simp (lt-leb sig_ok 1 l, and-false))
 
       module _ (l0 : sig_ok ≤ 1) (b0 : Bool) (e0 : b0 ≡ eqb sig_ok 1) where
         pub vote-found : (r : Answer) → r ≡ vote_checks (members_of ms') v' b0 → r ≡ vote_check ms v sig_ok
@@ -205,24 +208,24 @@ module _ (ms c : List ℕ) (id_ok sig_ok batch_ok : ℕ) where
     unfolding certificate_check
     certificate-11 n = misshapen _ _ _ (valid-still ms ms' w m) (rw n)
 
+    pub certificate-11-id : 1 < id_ok → (Err BadShape) ≡ certificate_check ms c id_ok sig_ok batch_ok
+    unfolding certificate_check
+    certificate-11-id l = misshapen _ _ _ (valid-still ms ms' w m) (simp (lt-leb id_ok 1 l, and-false))
+
+    pub certificate-11-signature : 1 < sig_ok → (Err BadShape) ≡ certificate_check ms c id_ok sig_ok batch_ok
+    unfolding certificate_check
+    certificate-11-signature l = misshapen _ _ _ (valid-still ms ms' w m) (simp (lt-leb sig_ok 1 l, and-false))
+
+    pub certificate-11-batch : 1 < batch_ok → (Err BadShape) ≡ certificate_check ms c id_ok sig_ok batch_ok
+    unfolding certificate_check
+    certificate-11-batch l = misshapen _ _ _ (valid-still ms ms' w m) (simp (lt-leb batch_ok 1 l, and-false))
+
     module _ (c' : List ℕ) (s : certificate_shape c' ≡ true) (e : c' ≡ c) where
       certificate-still : certificate_shape c ≡ true
       certificate-still = rw (← e) s
 
-      pub certificate-11-id : 1 < id_ok → (Err BadShape) ≡ certificate_check ms c id_ok sig_ok batch_ok
-      unfolding certificate_check
-      certificate-11-id l = misshapen _ _ _ (valid-still ms ms' w m) (simp (lt-leb id_ok 1 l, and-false))
-
       module _ (l0 : id_ok ≤ 1) (b0 : Bool) (e0 : b0 ≡ eqb id_ok 1) where
-        pub certificate-11-signature : 1 < sig_ok → (Err BadShape) ≡ certificate_check ms c id_ok sig_ok batch_ok
-        unfolding certificate_check
-        certificate-11-signature l = misshapen _ _ _ (valid-still ms ms' w m) (simp (lt-leb sig_ok 1 l, and-false))
-
         module _ (l1 : sig_ok ≤ 1) (b1 : Bool) (e1 : b1 ≡ eqb sig_ok 1) where
-          pub certificate-11-batch : 1 < batch_ok → (Err BadShape) ≡ certificate_check ms c id_ok sig_ok batch_ok
-          unfolding certificate_check
-          certificate-11-batch l = misshapen _ _ _ (valid-still ms ms' w m) (simp (lt-leb batch_ok 1 l, and-false))
-
           module _ (l2 : batch_ok ≤ 1) (b2 : Bool) (e2 : b2 ≡ eqb batch_ok 1) where
             pub certificate-found : (r : Answer) → r ≡ certificate_checks (members_of ms') c' b0 b1 b2 → r ≡ certificate_check ms c id_ok sig_ok batch_ok
             unfolding certificate_check

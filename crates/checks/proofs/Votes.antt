@@ -64,7 +64,7 @@ module _ (ms : List (List ℕ)) (c : List ℕ) (n weight i : ℕ) (s : Weighing 
     weighing-before = omega (arith, s.fits)
 
     module _ (v : List ℕ) (q : v ≡ item_in 32 c 3435 i) where
-      weighing-key : length v ≡ 32
+      pub weighing-key : length v ≡ 32
       weighing-key = ap length q ∙ item-length 32 c 3435 n s.fits i l
 
       pub weighing-whole : 0 + length v ≤ 32

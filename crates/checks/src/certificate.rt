@@ -61,7 +61,10 @@ pub fn certificate_checks(
     let header = Header {
         bytes: messages::certificate::header(certificate.bytes),
     };
-    crate::header::header_checks(committee, &header, id_ok, sig_ok)?;
+    let found = crate::header::header_checks(committee, &header, id_ok, sig_ok);
+    let Ok(_) = found else {
+        return found;
+    };
     votes_checks(committee, certificate, batch_ok)
 }
 

@@ -19,7 +19,7 @@ use Rattle.consensus.proofs.Marks.{ones, ones-le, ones_none}
 use Rattle.consensus.proofs.Sorting.{near}
 use Rattle.held.specs.Rows.{held_of, lasts_of, state_of}
 use Rattle.held.proofs.Laws.{length-held}
-use Rattle.dag.specs.Steps.{stack, pile_of, Sound, PutOn, KeptNear, Followed}
+use Rattle.dag.specs.Steps.{stack, pile_of, Sound, PutOn, KeptNear, Followed, Walked}
 
 -- ---- one is listed, unless it is deep
 
@@ -186,10 +186,20 @@ module _ (t p f f₁ : List ℕ) (leader : ℕ) (e : f₁ ≡ splice f 0 (replic
         let a : ones f₁ ≡ 0 = ap ones (cleared f f₁ e) ∙ ones_none (length f) in
         omega (arith, w.balance)
 
-    pub start-walked : (st : List ℕ) (depth r : ℕ) (p'' f'' o o' : List ℕ) → Followed st t depth r p' h p'' f' f'' o o' → take r (numbers_of o') ≡ near depth (highest (lasts_of st)) (held_of t) (walk_from (state_of st t) leader)
+    pub start-near : (st : List ℕ) (depth r : ℕ) (p'' f'' o o' : List ℕ) → Followed st t depth r p' h p'' f' f'' o o' → take r (numbers_of o') ≡ near depth (highest (lasts_of st)) (held_of t) (walk_from (state_of st t) leader)
     unfolding walk_from state_of
-    start-walked st depth r p'' f'' o o' u =
+    start-near st depth r p'' f'' o o' u =
         u.is
         ∙ ap (λ (v : ℕ). near depth (highest (lasts_of st)) (held_of t) (walk (parents_at (state_of st t)) v (pile_of p' h f'))) (turns ∙ sym (length-held t))
         ∙ ap (λ (v : Pile). near depth (highest (lasts_of st)) (held_of t) (walk (parents_at (state_of st t)) (length (held_of t)) v)) pile-is
         ∙ ap (λ (k : ℕ). near depth (highest (lasts_of st)) (held_of t) (walk (parents_at (state_of st t)) (length (held_of t)) (record { pile = leader ∷ []; flags = set (replicate k 0) leader 1 }))) (sym (length-held t))
+
+    pub start-walked : (st : List ℕ) (depth r : ℕ) (p'' f'' o o' : List ℕ) → Followed st t depth r p' h p'' f' f'' o o' → Walked st t depth leader r p p'' f f'' o o'
+    start-walked st depth r p'' f'' o o' u =
+        record {
+          is = start-near st depth r p'' f'' o o' u;
+          few = u.few;
+          pile = u.pile ∙ w.pile;
+          marks = u.marks ∙ w.marks ∙ start-size ∙ sym lf;
+          out = u.out;
+        }

@@ -128,12 +128,15 @@ digest-long ps d k l e = ap length e ∙ length_part ps (0 + k * 32) 32 (omega a
 
 module _ (st t : List ℕ) (r : ℕ) (ps : List ℕ) (k : ℕ) (p : List ℕ) (h : ℕ) (f d : List ℕ) (ed : d ≡ item_in 32 ps 0 k) (s : Sound p h f) where
   -- not held in the round
-  pub parent-out : count_of t ≡ find r d (held_of t) → PutOn (put_all (open_parents (lasts_of st) (held_of t) r (item_in 32 ps 0 k ∷ []))) p h f p h f
+  pub parent-out : count_of t ≤ find r d (held_of t) → PutOn (put_all (open_parents (lasts_of st) (held_of t) r (item_in 32 ps 0 k ∷ []))) p h f p h f
   unfolding open_parents put_all
   parent-out o =
-      let e : count_of t ≡ find r (item_in 32 ps 0 k) (held_of t) = o ∙ ap (λ (v : List ℕ). find r v (held_of t)) ed in
+      let e : find r d (held_of t) ≡ find r (item_in 32 ps 0 k) (held_of t) = ap (λ (v : List ℕ). find r v (held_of t)) ed in
       let n : ltb (find r (item_in 32 ps 0 k) (held_of t)) (length (held_of t)) ≡ false = le-ltb (find r (item_in 32 ps 0 k) (held_of t)) (length (held_of t)) (omega (arith, length-held t, e)) in
       put-none (put_all (open_parents (lasts_of st) (held_of t) r (item_in 32 ps 0 k ∷ []))) p h f s (rw (n, open_parents))
+
+  pub parent-none : count_of t ≡ find r d (held_of t) → PutOn (put_all (open_parents (lasts_of st) (held_of t) r (item_in 32 ps 0 k ∷ []))) p h f p h f
+  parent-none o = parent-out (omega arith)
 
   module _ (j : ℕ) (ej : j ≡ find r d (held_of t)) (i : j < count_of t) (b : Bool) (q : b ≡ eqb (get_or (lasts_of st) (cert_at (held_of t) j).origin 0) (cert_at (held_of t) j).round) where
     e : j ≡ find r (item_in 32 ps 0 k) (held_of t)
@@ -219,6 +222,9 @@ putting-start n st t x ps r m p h f s l e er em d =
       pile = refl;
       marks = refl;
     }
+
+pub one-back : (k : ℕ) → k + 1 - 1 ≡ k
+one-back k = omega arith
 
 module _ (st t : List ℕ) (x : ℕ) (ps : List ℕ) (r m : ℕ) (p₀ : List ℕ) (h₀ : ℕ) (f₀ p : List ℕ) (h : ℕ) (f : List ℕ) (k : ℕ) (u : Putting st t x ps r m p₀ h₀ f₀ p h f k) where
   pub putting-done : m ≤ k → PutOn (put_all (parents_at (state_of st t) x)) p₀ h₀ f₀ p h f

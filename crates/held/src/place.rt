@@ -20,6 +20,23 @@ fn row_is_of(row: &[u8], origin: usize, round: u32) -> bool
     crate::row::round(row) == round
 }
 
+// Whether the certificate at place i has this origin and round, whatever else the rows say.
+pub fn is_of(table: &[u8], i: usize, origin: usize, round: u32) -> bool
+    requires table_value { shaped 1062 table.now ≡ true }
+    requires i_bound { i < count_of table.now }
+    ensures { result ≡ (eqb (cert_at (held_of table.now) i).origin origin && eqb (cert_at (held_of table.now) i).round round) }
+{
+    row_is_of(table::rows::row(table, ROW, i), origin, round)
+}
+
+// Whether a round holds a certificate, whatever else the rows say.
+pub fn has_round(table: &[u8], round: u32) -> bool
+    requires { shaped 1062 table.now ≡ true }
+    ensures { result ≡ not (is_empty (of_round round (held_of table.now))) }
+{
+    table::rows::rows(table, ROW).any(|row| crate::row::round(row) == round)
+}
+
 // The first place with this origin and round, whatever else the rows say.
 pub(crate) fn place_in(table: &[u8], origin: usize, round: u32) -> Option<usize>
     requires { shaped 1062 table.now ≡ true }
@@ -87,7 +104,7 @@ impl<'a> Held<'a> {
     pub fn has_round(&self, round: u32) -> bool
         ensures { result ≡ not (is_empty (of_round round (held_of self.now.table.now))) }
     {
-        table::rows::rows(self.table, ROW).any(|row| crate::row::round(row) == round)
+        has_round(self.table, round)
     }
 
     // The first place with this origin and round.
@@ -103,6 +120,6 @@ impl<'a> Held<'a> {
         requires { i < count_of self.now.table.now }
         ensures { result ≡ (eqb (cert_at (held_of self.now.table.now) i).origin origin && eqb (cert_at (held_of self.now.table.now) i).round round) }
     {
-        row_is_of(table::rows::row(self.table, ROW, i), origin, round)
+        is_of(self.table, i, origin, round)
     }
 }

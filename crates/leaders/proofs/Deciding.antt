@@ -35,19 +35,22 @@ module _ (s st t : List ℕ) (round : ℕ) where
       kind-old h = sym (ap kind_of (decide-old (agreed_of s) round (lasts_of st) (held_of t) top et h))
 
       -- a leader that is not held is quiet, whatever C is
-      pub kind-absent : count_of t ≡ leader_at (agreed_of s) (held_of t) (round - 3) → Ok false ≡ kind_of (decide (agreed_of s) round (lasts_of st) (held_of t))
+      pub kind-absent : (p count : ℕ) → p ≡ leader_at (agreed_of s) (held_of t) (round - 3) → count ≡ count_of t → count ≤ p → Ok false ≡ kind_of (decide (agreed_of s) round (lasts_of st) (held_of t))
       unfolding leader_at
-      kind-absent e = go (ltb top (round - 3)) refl
+      kind-absent p count ep ec h = go (ltb top (round - 3)) refl
         where
           l : length (held_of t) ≡ count_of t
           l = length-held t
 
           off : leader (agreed_of s) (round - 3) (held_of t) ≡ absent
-          off = let k = l in leader-off (agreed_of s) (round - 3) (held_of t) (count_of t) e (omega arith)
+          off = let k = l in leader-off (agreed_of s) (round - 3) (held_of t) p ep (omega arith)
 
           go : (b : Bool) → ltb top (round - 3) ≡ b → Ok false ≡ kind_of (decide (agreed_of s) round (lasts_of st) (held_of t))
           go true q = sym (ap kind_of (decide-absent (agreed_of s) round (lasts_of st) (held_of t) top et odd five (ltb-true top (round - 3) q) off))
           go false q = kind-old (ltb-false top (round - 3) q)
+
+      pub kind-none : count_of t ≡ leader_at (agreed_of s) (held_of t) (round - 3) → Ok false ≡ kind_of (decide (agreed_of s) round (lasts_of st) (held_of t))
+      kind-none e = kind-absent (count_of t) (count_of t) e refl (omega arith)
 
       module _ (up : top < round - 3) (p : ℕ) (ep : p ≡ leader_at (agreed_of s) (held_of t) (round - 3)) where
         module _ (held : p < count_of t) where
@@ -87,10 +90,7 @@ module _ (s st t : List ℕ) (round : ℕ) where
                     let y = decide-alone (agreed_of s) round (lasts_of st) (held_of t) top et odd five up (cert_at (held_of t) p) leads (empty false some) support (agreed-edition s) 0 e refl in
                     sym (ap kind_of y.1)
 
-                module _ (q : ℕ) (eq : q ≡ lowest_round (agreed_of s) (top + 2) (round - 4) (held_of t)) (above : top + 2 ≤ q) (u : Bool) (eu : u ≡ not (hole_in (round - 3 - q) q (held_of t))) where
-                  nz : q ≡ 0 → ⊥
-                  nz z = absurd (omega arith)
-
+                module _ (q : ℕ) (eq : q ≡ lowest_round (agreed_of s) (top + 2) (round - 4) (held_of t)) (nz : q ≡ 0 → ⊥) (u : Bool) (eu : u ≡ not (hole_in (round - 3 - q) q (held_of t))) where
                   hole : (y : Bool) → u ≡ y → hole_in (round - 3 - q) q (held_of t) ≡ not y
                   hole y z = go (hole_in (round - 3 - q) q (held_of t)) refl
                     where
@@ -106,3 +106,11 @@ module _ (s st t : List ℕ) (round : ℕ) where
                   pub kind-hole : u ≡ false → Err HistoryMissing ≡ kind_of (decide (agreed_of s) round (lasts_of st) (held_of t))
                   kind-hole h =
                       sym (ap kind_of (decide-hole (agreed_of s) round (lasts_of st) (held_of t) top et odd five up (cert_at (held_of t) p) leads (empty false some) support (agreed-edition s) q eq nz (hole false h)))
+
+                -- where it is not below top + 2
+                module _ (q : ℕ) (eq : q ≡ lowest_round (agreed_of s) (top + 2) (round - 4) (held_of t)) (above : top + 2 ≤ q) (u : Bool) (eu : u ≡ not (hole_in (round - 3 - q) q (held_of t))) where
+                  pub kind-unbroken : u ≡ true → Ok true ≡ kind_of (decide (agreed_of s) round (lasts_of st) (held_of t))
+                  kind-unbroken h = kind-whole q eq (λ z. absurd (omega arith)) u eu h
+
+                  pub kind-broken : u ≡ false → Err HistoryMissing ≡ kind_of (decide (agreed_of s) round (lasts_of st) (held_of t))
+                  kind-broken h = kind-hole q eq (λ z. absurd (omega arith)) u eu h

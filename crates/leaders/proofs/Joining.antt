@@ -18,7 +18,7 @@ use Rattle.consensus.specs.Leaders.{Agreed, Leaders, leaders, leaders_from, link
 use Rattle.consensus.specs.Candidates.{edition1}
 use Rattle.consensus.proofs.Hole.{hole_in}
 use Rattle.consensus.proofs.Scan.{next_round}
-use Rattle.consensus.proofs.Leading.{Leading, lead-done, lead-pass, lead-room, lead-start, lead-take, next_place, next-roof, next-round}
+use Rattle.consensus.proofs.Leading.{Leading, lead-done, lead-pass, lead-room, lead-start, lead-take, next-floor, next_place, next-roof, next-round}
 use Rattle.consensus.proofs.Settling.{lead-lowest, lead-whole, lowest_round}
 use Rattle.held.specs.Rows.{held_of, held_shape, lasts_of}
 use Rattle.held.proofs.Laws.{length-held}
@@ -126,14 +126,14 @@ module _ {s st t : List ℕ} {opener n low first : ℕ} {rounds₀ marks rounds 
         size = J.kept ∙ P.size;
       }
 
-  -- it is found, and not below low
+  -- it is found; one that is not below low is one
   module _ {q : ℕ} (e : q ≡ next_round (agreed_of s) low r (held_of t)) where
-    module _ (above : low ≤ q) where
-      nz : q ≡ 0 → ⊥
-      nz z = let w = J.leads.two in absurd (omega arith)
+    pub joining-some : low ≤ q → q ≡ 0 → ⊥
+    joining-some above z = let w = J.leads.two in absurd (omega arith)
 
+    module _ (nz : q ≡ 0 → ⊥) where
       pub joining-two : 2 ≤ q
-      joining-two = let w = J.leads.two in omega arith
+      joining-two = let f = next-floor (agreed_of s) (held_of t) low r q e nz in let w = J.leads.two in omega arith
 
       pub joining-falls : q - 2 < r
       joining-falls = let f = joining-two in let u = next-roof (agreed_of s) (held_of t) low r q e in omega arith

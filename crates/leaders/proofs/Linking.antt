@@ -29,7 +29,7 @@ module _ (r m : ℕ) (c : Cert) where
   front-marked h x e = sym (rw (ne_eqb m 0 h, ← e))
 
 module _ (d : List ℕ) (r m : ℕ) (c : Cert) where
-  has-is : (is_front r m c && alike c.digest d) ≡ has_digest d (front_of r (m ∷ []) (c ∷ []))
+  pub has-is : (is_front r m c && alike c.digest d) ≡ has_digest d (front_of r (m ∷ []) (c ∷ []))
   unfolding front_of has_digest
   has-is = go (is_front r m c) refl (alike c.digest d) refl
     where
@@ -38,7 +38,7 @@ module _ (d : List ℕ) (r m : ℕ) (c : Cert) where
       go true t false q = rw (t, front_of) (rw (q, has_digest))
       go false t k q = rw (t, front_of)
 
-  names-is : (is_front r m c && is_in d c.parents) ≡ named d (front_of r (m ∷ []) (c ∷ []))
+  pub names-is : (is_front r m c && is_in d c.parents) ≡ named d (front_of r (m ∷ []) (c ∷ []))
   unfolding front_of named
   names-is = go (is_front r m c) refl (is_in d c.parents) refl
     where

@@ -88,11 +88,19 @@ abbrev pub round_in : Agreed → ℕ → ℕ → Cert → Option ℕ
 round_in a low r c = cond (candidate a low r c) (Some c.round) None
 
 module _ (a : Agreed) (low r : ℕ) (c : Cert) (b : Bool) (e : b ≡ candidate a low r c) where
-  pub its-round : not b ≡ false → (x : ℕ) → x ≡ c.round → Some x ≡ cond (candidate a low r c) (Some c.round) None
-  its-round h x f = let t : candidate a low r c ≡ true = sym e ∙ not-false b h in rw (t, f)
+  pub its-round : b ≡ true → (x : ℕ) → x ≡ c.round → x ≡ next_round a low r (c ∷ [])
+  unfolding next_round
+  its-round h x f = rw (sym e ∙ h, next_round) (omega arith)
 
-  pub no-round : not b ≡ true → None ≡ cond (candidate a low r c) (Some c.round) None
-  no-round h = let t : candidate a low r c ≡ false = sym e ∙ not-true b h in rw t
+  pub no-round : b ≡ false → 0 ≡ next_round a low r (c ∷ [])
+  unfolding next_round
+  no-round h = rw (sym e ∙ h, next_round)
+
+  pub round-there : not b ≡ false → (x : ℕ) → x ≡ c.round → Some x ≡ cond (candidate a low r c) (Some c.round) None
+  round-there h x f = let t : candidate a low r c ≡ true = sym e ∙ not-false b h in rw (t, f)
+
+  pub round-absent : not b ≡ true → None ≡ cond (candidate a low r c) (Some c.round) None
+  round-absent h = let t : candidate a low r c ≡ false = sym e ∙ not-true b h in rw t
 
 -- over the places held, or over what is held
 filter_places : {A : Type 0} (g : A → Option ℕ) (d : A) (f : ℕ → A) (xs : List A) (i : ℕ) → ((k j : ℕ) → j ≡ i + k → k < length xs → f j ≡ get_or xs k d)

@@ -36,7 +36,7 @@ impl<'s, 'h> View<'s, 'h> {
         let Some(q) = lowest else {
             return Ok(true); // alone
         };
-        if crate::link::is_unbroken(&self.held, q, round - 3) {
+        if crate::link::is_unbroken(self.held.table, q, round - 3) {
             return Ok(true); // no link test meets a gap
         }
         Err(Refusal::HistoryMissing)

@@ -1,6 +1,6 @@
 // Rounds without a gap, and the link test between two leaders, each by a walk that calls itself one round lower.
 ghost use Rattle.std.specs.Prelude.{◌≡◌, true, false, not, [], ◌∷◌, ◌-◌, ◌<◌, ◌≤◌, length, get_or};
-ghost use Rattle.table.specs.Rows.{count_of};
+ghost use Rattle.table.specs.Rows.{count_of, shaped};
 ghost use Rattle.consensus.specs.Table.{cert_at};
 ghost use Rattle.consensus.specs.Leaders.{link, linked, named, has_digest};
 ghost use Rattle.consensus.proofs.Hole.{hole_in};
@@ -11,16 +11,17 @@ use held::Held;
 
 // Whether each round from low up to the one below upper holds a certificate. It ends at the first that holds none, so it calls itself no
 // more often than there are held ones.
-pub fn is_unbroken(held: &Held, low: u32, upper: u32) -> bool
-    ensures { result ≡ not (hole_in (upper - low) low (held_of held.now.table.now)) }
+pub fn is_unbroken(table: &[u8], low: u32, upper: u32) -> bool
+    requires { shaped 1062 table.now ≡ true }
+    ensures { result ≡ not (hole_in (upper - low) low (held_of table.now)) }
 {
     if upper <= low {
         return true;
     }
-    if !held.has_round(upper - 1) {
+    if !held::place::has_round(table, upper - 1) {
         return false;
     }
-    is_unbroken(held, low, upper - 1)
+    is_unbroken(table, low, upper - 1)
 }
 
 // A table with a mark for each of its places. The front in a round is what is marked and of that round.

@@ -25,7 +25,7 @@ pub item-string-length : (p : List ℕ) → 36 ≤ length p → length (payload_
 unfolding payload_item digest_in
 item-string-length p h = rw (length-append, length_part p 0 32 (omega arith), length-bytes)
 
-pub item-written : (p out out₁ out₂ d : List ℕ) (w : ℕ) → length p ≡ 36 → length out ≡ 36 → d ≡ digest_in p → w ≡ worker_in p → out₁ ≡ splice out 0 d → out₂ ≡ splice out₁ 32 (bytes 4 w) → out₂ ≡ payload_item p
+pub item-written : (p out out₁ out₂ d : List ℕ) (w : ℕ) → 36 ≤ length p → length out ≡ 36 → d ≡ digest_in p → w ≡ worker_in p → out₁ ≡ splice out 0 d → out₂ ≡ splice out₁ 32 (bytes 4 w) → out₂ ≡ payload_item p
 unfolding payload_item digest_in
 item-written p out out₁ out₂ d w h l ed ew e₁ e₂ =
     let ld : length d ≡ 32 = ap length ed ∙ length_part p 0 32 (omega arith) in
@@ -36,6 +36,10 @@ item-written p out out₁ out₂ d w h l ed ew e₁ e₂ =
     ∙ splice-full out (d ++ bytes 4 w) (simp length-append (omega arith))
     ∙ rw (ed, ew)
 
+-- an item of just the length
+pub whole-written : (p out out₁ out₂ d : List ℕ) (w : ℕ) → length p ≡ 36 → length out ≡ 36 → d ≡ digest_in p → w ≡ worker_in p → out₁ ≡ splice out 0 d → out₂ ≡ splice out₁ 32 (bytes 4 w) → out₂ ≡ payload_item p
+whole-written p out out₁ out₂ d w h l ed ew e₁ e₂ = item-written p out out₁ out₂ d w (omega arith) l ed ew e₁ e₂
+
 -- ---- items written one behind the other: those below i stand, the rest is as it was
 pub record Filling (rs : List (List ℕ)) (size n : ℕ) (out₀ out : List ℕ) (i : ℕ) : Type 0 where
   pub high : i ≤ n
@@ -44,7 +48,7 @@ pub record Filling (rs : List (List ℕ)) (size n : ℕ) (out₀ out : List ℕ)
   pub long : length out₀ ≡ n * size
   pub here : out ≡ flat (take i rs) ++ drop (i * size) out₀
 
-filling-start : (rs : List (List ℕ)) (size n : ℕ) (out : List ℕ) → length rs ≡ n → Sized size rs → length out ≡ n * size → Filling rs size n out out 0
+pub filling-start : (rs : List (List ℕ)) (size n : ℕ) (out : List ℕ) → length rs ≡ n → Sized size rs → length out ≡ n * size → Filling rs size n out out 0
 unfolding flat
 filling-start rs size n out c s l = record { high = omega arith; count = c; sized = s; long = l; here = rw zero-mul }
 
@@ -70,6 +74,9 @@ module _ (rs : List (List ℕ)) (size n : ℕ) (out₀ out : List ℕ) (i : ℕ)
       s.here ∙ rw (z, append-nil, t)
 
   module _ (l : i < n) where
+    pub filling-room : (r : List ℕ) → length r ≡ size → i * size + length r ≤ length out
+    filling-room r e = omega (arith, filling-length, below-mul i n size l)
+
     pub filling-next : (r out' : List ℕ) → r ≡ get_or rs i [] → out' ≡ splice out (i * size) r → Filling rs size n out₀ out' (i + 1)
     filling-next r out' e f =
         let lr : length r ≡ size = ap length e ∙ sized-at size rs i s.sized (omega (arith, s.count)) in
@@ -105,6 +112,11 @@ parents-copied h out n l few e f =
     ∙ take_at (flat rs) (drop (n * 32) (drop 74 h)) (n * 32) k
     ∙ rw e
 
+pub parents-put : (h out out' : List ℕ) (n : ℕ) → length h ≡ 3402 → parent_count h ≤ 32 → n ≡ parent_count h → length out ≡ parent_count h * 32 → out' ≡ splice out 0 (take (74 + n * 32 - 74) (drop 74 h)) → out' ≡ flat (parents_of h)
+parents-put h out out' n l few e m f =
+    let s : List ℕ = take (74 + n * 32 - 74) (drop 74 h) in
+    f ∙ splice-full out s (simp (length-take, length-drop) (omega arith)) ∙ parents-copied h s n l few e refl
+
 -- ---- the payload of a header
 strings-sized : (ps : List (List ℕ)) → Sized 36 ps → Sized 36 (map payload_item ps)
 strings-sized [] none = none
@@ -126,7 +138,7 @@ module _ (h : List ℕ) (n : ℕ) (l : length h ≡ 3402) (few : payload_count h
     pub payload-end : i * 36 + 36 ≤ length out
     payload-end = omega (arith, filling-length (map payload_item (payload_of h)) 36 n out₀ out i s)
 
-    payload-long : (p : List ℕ) → p ≡ item_in 36 h 1098 i → 36 ≤ length p
+    pub payload-long : (p : List ℕ) → p ≡ item_in 36 h 1098 i → 36 ≤ length p
     payload-long p f = omega (arith, ap length f, item-length 36 h 1098 (payload_count h) (omega arith) i (omega arith))
 
     module _ (p r : List ℕ) (f : p ≡ item_in 36 h 1098 i) (g : r ≡ payload_item p) where

@@ -36,7 +36,7 @@ fn write_parents(header: &[u8; HEADER], out: &mut [u8])
     ensures { out.new ≡ flat (parents_of header.now) }
 {
     let n = crate::header::parent_count(header);
-    out.copy_from_slice(&header[PARENTS..PARENTS + n * 32]);
+    wire::parts::put_bytes(out, 0, &header[PARENTS..PARENTS + n * 32]);
 }
 
 // How long a header's string is.

@@ -10,7 +10,7 @@ use Rattle.refusal.specs.Answers.{Answer, value_of}
 use Rattle.std.specs.Prelude.{Ok, Err}
 use Rattle.refusal.specs.declared.Refusal.{Refusal}
 
--- what `code` asks, of an answer that lists no more than a table has places
+-- what `long_code` asks, of an answer that lists no more than a table has places
 pub count_fits : (a : Answer) (t : List ℕ) → value_of a ≤ places 1062 t → length t < 256 ^ 8 → value_of a < 256 ^ 7
 unfolding places
 count_fits a t h l = omega arith

@@ -1,14 +1,15 @@
 -- The laws of `specs/Start.antt`. Assumes nothing.
 use mathlib.Core.Path.{◌≡◌, refl, sym, ap, ◌∙◌}
-use mathlib.Core.Bool.{Bool, true, false, not}
+use mathlib.Core.Bool.{Bool, true, false, not, ◌&&◌}
 use mathlib.Core.List.{List, [], ◌∷◌, ◌++◌}
 use Prim.Native.Nat.{ℕ, zero, suc, ◌+◌, ◌*◌, ◌/◌, ◌≤◌, ◌<◌}
 use native.Mathlib.Numerals.{add-one}
 use native.Mathlib.Nat.{div-mul-le_self}
 use native.Mathlib.Omega.{arith}
+use lib.Dec.{eqb, leb}
 use lib.ListN.{length, get_or, take, get_or-replicate}
 use lib.Seq.{take-suc, take_all, length-take-le}
-use borrow.Author.Tests.{eq-eqb, ne_eqb, not-true, not-false}
+use borrow.Author.Tests.{eq-eqb, ne_eqb, eqb-true, le-leb, lt-leb, not-true, not-false}
 use Rattle.wire.specs.Bytes.{splice}
 use Rattle.wire.specs.Items.{items, item_in, flat}
 use Rattle.wire.proofs.Laws.{length-splice}
@@ -28,7 +29,7 @@ use Rattle.std.specs.Array.{IsWholeChunk}
 use Rattle.std.specs.Prelude.{Err}
 use Rattle.refusal.specs.declared.Refusal.TheVariants.{BadCommittee, BadShape}
 use Rattle.proposer.proofs.Splices.{splice-none, splice-join, get_after}
-use Rattle.proposer.proofs.Values.{from-no}
+use Rattle.proposer.proofs.Values.{and_left, and_right, from-no}
 use Rattle.proposer.proofs.Making.{length-zeros, all-zeros}
 use Rattle.proposer.proofs.Meaning.{state-advanced}
 
@@ -136,6 +137,56 @@ module _ (own : List ℕ) (l : length own ≡ 32) where
       rw e
       (state-advanced (splice (zeros 3366) 0 own) 0 (digests_in (records_of g)) length-owned (records-sized g) (omega (arith, length-records g)) (omega arith) (omega (arith, owned-none)))
 
+-- ---- `valid_start`: its tests one after the other
+module _ (ms g : List ℕ) (size timer : ℕ) (s h : List ℕ) where
+  pub start-size : 4294967295 < size → false ≡ valid_start ms g size timer s h
+  unfolding valid_start
+  start-size a = sym (rw (lt-leb _ _ a))
+
+  module _ (a : size ≤ 4294967295) where
+    pub start-timer : 1 < timer → false ≡ valid_start ms g size timer s h
+    unfolding valid_start
+    start-timer b = sym (rw (le-leb _ _ a, lt-leb _ _ b))
+
+    module _ (b : timer ≤ 1) where
+      pub start-state : (length s ≡ 3366 → ⊥) → false ≡ valid_start ms g size timer s h
+      unfolding valid_start
+      start-state c = sym (rw (le-leb _ _ a, le-leb _ _ b, ne_eqb _ _ c))
+
+      module _ (c : length s ≡ 3366) where
+        pub start-header : (length h ≡ 3402 → ⊥) → false ≡ valid_start ms g size timer s h
+        unfolding valid_start
+        start-header d = sym (rw (le-leb _ _ a, le-leb _ _ b, eq-eqb _ _ c, ne_eqb _ _ d))
+
+        pub start-last : (t : Bool) → length h ≡ 3402 → t ≡ valid_genesis ms g → t ≡ valid_start ms g size timer s h
+        unfolding valid_start
+        start-last t d e = e ∙ sym (rw (le-leb _ _ a, le-leb _ _ b, eq-eqb _ _ c, eq-eqb _ _ d))
+
+  -- what it says
+  module _ (t : Bool) (e : t ≡ valid_start ms g size timer s h) (f : not t ≡ false) where
+    tests : valid_start ms g size timer s h ≡ true
+    tests = sym e ∙ not-false t f
+
+    sizes : leb size 4294967295 && leb timer 1 && eqb (length s) 3366 && eqb (length h) 3402 ≡ true
+    unfolding valid_start
+    sizes = and_left (leb size 4294967295 && leb timer 1 && eqb (length s) 3366 && eqb (length h) 3402) (valid_genesis ms g) tests
+
+    pub start-long : length s ≡ 3366
+    start-long =
+        eqb-true (length s) 3366
+        (and_right (leb size 4294967295 && leb timer 1) (eqb (length s) 3366)
+        (and_left (leb size 4294967295 && leb timer 1 && eqb (length s) 3366) (eqb (length h) 3402) sizes))
+
+    pub start-room : length h ≡ 3402
+    start-room = eqb-true (length h) 3402 (and_right (leb size 4294967295 && leb timer 1 && eqb (length s) 3366) (eqb (length h) 3402) sizes)
+
+    pub start-few : (v : Bool) → v ≡ valid_members ms → not v ≡ false → length g / 68 ≤ 32
+    unfolding valid_start
+    start-few v ev fv =
+        let x = valid-genesis ms g (and_right (leb size 4294967295 && leb timer 1 && eqb (length s) 3366 && eqb (length h) 3402) (valid_genesis ms g) tests) in
+        let y = valid ms (sym ev ∙ not-false v fv) in
+        omega (arith, x.size, y.few)
+
 -- ---- `proposer_start`: the tests one after the other
 module _ (ms own g : List ℕ) (size timer : ℕ) (s h : List ℕ) (v : Bool) (ev : v ≡ valid_members ms) where
   pub start-no : not v ≡ true → Left (start_after ms own g size timer s h) (Err BadCommittee) s h
@@ -153,7 +204,7 @@ module _ (ms own g : List ℕ) (size timer : ℕ) (s h : List ℕ) (v : Bool) (e
       start-stranger b = rw (sym ev ∙ not-false v fv, start_after, eq-eqb _ _ a.long, start_after, ← a.same, sym ex ∙ b, start_after) (record { answer = refl; state = refl; header = refl })
 
       module _ (m : Standing) (b : x ≡ Some m) where
-        start-shape : valid_start ms g size timer s h ≡ false → Left (start_after ms own g size timer s h) (Err BadShape) s h
+        pub start-shape : valid_start ms g size timer s h ≡ false → Left (start_after ms own g size timer s h) (Err BadShape) s h
         unfolding start_after
         start-shape f = rw (sym ev ∙ not-false v fv, start_after, eq-eqb _ _ a.long, start_after, ← a.same, sym ex ∙ b, start_after, f, start_after) (record { answer = refl; state = refl; header = refl })
 
@@ -162,14 +213,14 @@ module _ (ms own g : List ℕ) (size timer : ℕ) (s h : List ℕ) (v : Bool) (e
         start-pace c = start-shape (rw (from-no (valid_pace size timer) c))
 
         module _ (c : valid_pace size timer ≡ true) where
-          pub start-state : (length s ≡ 3366 → ⊥) → Left (start_after ms own g size timer s h) (Err BadShape) s h
+          pub start-no-state : (length s ≡ 3366 → ⊥) → Left (start_after ms own g size timer s h) (Err BadShape) s h
           unfolding valid_start valid_pace
-          start-state d = start-shape (rw (c, ne_eqb _ _ d))
+          start-no-state d = start-shape (rw (c, ne_eqb _ _ d))
 
           module _ (s₁ : List ℕ) (d : IsWholeChunk s s₁ 3366) where
-            pub start-header : (length h ≡ 3402 → ⊥) → Left (start_after ms own g size timer s h) (Err BadShape) s₁ h
+            pub start-no-header : (length h ≡ 3402 → ⊥) → Left (start_after ms own g size timer s h) (Err BadShape) s₁ h
             unfolding valid_start valid_pace
-            start-header e = rw d.same (start-shape (rw (c, eq-eqb _ _ d.long, ne_eqb _ _ e)))
+            start-no-header e = rw d.same (start-shape (rw (c, eq-eqb _ _ d.long, ne_eqb _ _ e)))
 
             module _ (h₁ : List ℕ) (e : IsWholeChunk h h₁ 3402) (t : Bool) (et : t ≡ valid_genesis ms g) where
               start-is : t ≡ valid_start ms g size timer s h
@@ -180,15 +231,15 @@ module _ (ms own g : List ℕ) (size timer : ℕ) (s h : List ℕ) (v : Bool) (e
               start-genesis f = rw (d.same, e.same) (start-shape (sym start-is ∙ not-true t f))
 
               module _ (f : not t ≡ false) where
-                pub start-few : length g / 68 ≤ 32
-                start-few =
+                pub start-records : length g / 68 ≤ 32
+                start-records =
                     let y = valid-genesis ms g (sym et ∙ not-false t f) in
                     let z = valid ms (sym ev ∙ not-false v fv) in
                     omega (arith, y.size, z.few)
 
                 module _ (u : List ℕ) (i : u ≡ started o g) where
                   pub start-valid : valid_state u ≡ true
-                  start-valid = state-started o (rw a.same a.long) g u start-few i
+                  start-valid = state-started o (rw a.same a.long) g u start-records i
 
                   pub start-made : (size₁ timer₁ : ℕ) → (size₁ ≡ size) × (timer₁ ≡ timer) → (r : Answer) (s' h' : List ℕ) → Left (settled size₁ timer₁ u h₁) r s' h' → Left (start_after ms own g size timer s h) r s' h'
                   unfolding start_after

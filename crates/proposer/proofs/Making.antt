@@ -1,5 +1,5 @@
 -- The laws of `specs/Header.antt`: the writes in a row are the header. Assumes nothing.
-use mathlib.Core.Path.{◌≡◌, ap, ◌∙◌}
+use mathlib.Core.Path.{◌≡◌, refl, ap, ◌∙◌}
 use mathlib.Core.Bool.{true}
 use mathlib.Core.List.{List, [], ◌∷◌, append-nil}
 use Prim.Native.Nat.{ℕ, ◌+◌, ◌*◌, ◌/◌, ◌≤◌, ◌<◌}
@@ -40,18 +40,27 @@ pub sorted-few : (xs : List (List ℕ)) → length (sorted_once xs) ≤ length x
 unfolding sorted_once
 sorted-few xs = omega (arith, sorted-most [] xs)
 
-module _ (size : ℕ) (src xs : List ℕ) (to r : ℕ) (ys : List ℕ) (a : Laid (sorted_once (items size src 0 (length src / size))) xs to r ys) where
-  pub list-few : 32 ≤ size → to + length src ≤ 3402 → r < 256
-  list-few g h =
-      let n : ℕ = length src / size in
-      let m : n * 32 ≤ n * size = mul-le-mul_left n g in
-      omega (arith, a.count, sorted-few (items size src 0 n), length-items size src 0 n, div-mul-le_self (length src) size)
+module _ (size : ℕ) (src : List ℕ) (at n : ℕ) (xs : List ℕ) (to r : ℕ) (ys : List ℕ) (a : Laid (sorted_once (items size src at n)) xs to r ys) where
+  pub list-few : n < 256 → r < 256
+  list-few h = omega (arith, a.count, sorted-few (items size src at n), length-items size src at n)
 
-  pub list-is : (k : ℕ) (zs : List ℕ) → zs ≡ splice ys k (r ∷ []) → zs ≡ with_list xs k to (sorted_once (items size src 0 (length src / size)))
+  pub list-is : (k : ℕ) (zs : List ℕ) → zs ≡ splice ys k (r ∷ []) → zs ≡ with_list xs k to (sorted_once (items size src at n))
   unfolding with_list
   list-is k zs e = e ∙ rw (a.bytes, a.count)
 
+-- all the items of src
+pub whole-few : (size : ℕ) (src xs : List ℕ) (to r : ℕ) (ys : List ℕ) → Laid (sorted_once (items size src 0 (length src / size))) xs to r ys → 32 ≤ size → to + length src ≤ 3402 → r < 256
+whole-few size src xs to r ys a g h =
+    let n : ℕ = length src / size in
+    let m : n * 32 ≤ n * size = mul-le-mul_left n g in
+    list-few size src 0 n xs to r ys a (omega (arith, div-mul-le_self (length src) size))
+
 -- ---- all of it
+pub header_is : (s a b c : List ℕ) (n m : ℕ) → a ≡ splice (splice (zeros 3402) 32 (own_in s)) 64 (bytes 8 (round_in s)) → n ≡ parent_count s → b ≡ with_list a 72 74 (sorted_once (items 32 s 38 n)) → m ≡ waiting_count s → c ≡ with_list b 73 1098 (sorted_once (items 36 s 1062 m)) → c ≡ header_made s
+unfolding header_made header_of parents_in waiting_in
+header_is s a b c n m ea en eb em ec = ec ∙ rw (eb, ea, en, em)
+
+-- of the lists as parts of the state
 module _ (s : List ℕ) (h : valid_state s ≡ true) (ps : List ℕ) (ep : ps ≡ part s 38 (parent_count s * 32)) where
   pub parents-long : length ps ≤ 1024
   parents-long = omega (arith, is_state s h, ap length ep, length_part s 38 (parent_count s * 32) (omega (arith, is_state s h)))
@@ -66,6 +75,5 @@ module _ (s : List ℕ) (h : valid_state s ≡ true) (ps : List ℕ) (ep : ps �
     waiting-are : items 36 qs 0 (length qs / 36) ≡ items 36 s 1062 (waiting_count s)
     waiting-are = items-part 36 s 1062 (waiting_count s) qs (omega arith) (omega (arith, is_state s h)) eq
 
-    pub header_is : (a b c : List ℕ) → a ≡ splice (splice (zeros 3402) 32 (own_in s)) 64 (bytes 8 (round_in s)) → b ≡ with_list a 72 74 (sorted_once (items 32 ps 0 (length ps / 32))) → c ≡ with_list b 73 1098 (sorted_once (items 36 qs 0 (length qs / 36))) → c ≡ header_made s
-    unfolding header_made header_of parents_in waiting_in
-    header_is a b c ea eb ec = ec ∙ rw (eb, ea, parents-are, waiting-are)
+    pub header-parts : (a b c : List ℕ) → a ≡ splice (splice (zeros 3402) 32 (own_in s)) 64 (bytes 8 (round_in s)) → b ≡ with_list a 72 74 (sorted_once (items 32 ps 0 (length ps / 32))) → c ≡ with_list b 73 1098 (sorted_once (items 36 qs 0 (length qs / 36))) → c ≡ header_made s
+    header-parts a b c ea eb ec = header_is s a b c (parent_count s) (waiting_count s) ea refl (eb ∙ rw parents-are) refl (ec ∙ rw waiting-are)

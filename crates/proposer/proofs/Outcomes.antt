@@ -1,11 +1,12 @@
 -- The laws of `specs/Events.antt`, one for each way through a function: what it gives back and leaves is what the definition says. Assumes nothing.
 use mathlib.Core.Path.{◌≡◌, refl, sym, ◌∙◌}
-use mathlib.Core.Bool.{Bool, true, false, not}
+use mathlib.Core.Bool.{Bool, true, false, not, ◌&&◌}
 use mathlib.Core.List.{List}
 use Prim.Native.Nat.{ℕ, ◌/◌, ◌%◌, ◌≤◌, ◌<◌}
 use native.Mathlib.Omega.{arith}
+use lib.Dec.{eqb, leb}
 use lib.ListN.{length}
-use borrow.Author.Tests.{eq-eqb, ne_eqb, le-ltb, lt-ltb, le-leb, lt-leb, not-true, not-false}
+use borrow.Author.Tests.{eq-eqb, ne_eqb, eqb-true, le-ltb, lt-ltb, le-leb, lt-leb, not-true, not-false}
 use Rattle.proposer.specs.State.{round_in, waiting_count, valid_state, due_header, digests_of, advanced, added, emptied}
 use Rattle.proposer.specs.Header.{header_made}
 use Rattle.proposer.specs.Events.{Left, settled, received, valid_parents, parents_after, valid_digest, digest_after, valid_pace, valid_call, by_tag, event_after}
@@ -13,8 +14,41 @@ use Rattle.refusal.specs.Answers.{Answer}
 use Rattle.std.specs.Array.{IsWholeChunk}
 use Rattle.std.specs.Prelude.{Ok, Err}
 use Rattle.refusal.specs.declared.Refusal.TheVariants.{BadShape, NoRoom}
-use Rattle.proposer.proofs.Values.{from-no, is_state, state-size, length-digests}
+use Rattle.proposer.proofs.Values.{and_left, and_right, from-no, is_state, state-size, length-digests}
 use Rattle.proposer.proofs.Meaning.{state-advanced, state-added, digests-sized}
+
+-- ---- `valid_call`: its tests one after the other
+module _ (size timer : ℕ) (s h : List ℕ) where
+  pub call-size : 4294967295 < size → false ≡ valid_call size timer s h
+  unfolding valid_call
+  call-size a = sym (rw (lt-leb _ _ a))
+
+  pub call-timer : size ≤ 4294967295 → 1 < timer → false ≡ valid_call size timer s h
+  unfolding valid_call
+  call-timer a b = sym (rw (le-leb _ _ a, lt-leb _ _ b))
+
+  pub call-header : size ≤ 4294967295 → timer ≤ 1 → (length h ≡ 3402 → ⊥) → false ≡ valid_call size timer s h
+  unfolding valid_call
+  call-header a b c = sym (rw (le-leb _ _ a, le-leb _ _ b, ne_eqb _ _ c))
+
+  pub call-last : (t : Bool) → size ≤ 4294967295 → timer ≤ 1 → length h ≡ 3402 → t ≡ valid_state s → t ≡ valid_call size timer s h
+  unfolding valid_call
+  call-last t a b c d = d ∙ sym (rw (le-leb _ _ a, le-leb _ _ b, eq-eqb _ _ c))
+
+  module _ (t : Bool) (e : t ≡ valid_call size timer s h) (f : not t ≡ false) where
+    call-holds : valid_call size timer s h ≡ true
+    call-holds = sym e ∙ not-false t f
+
+    pub call-state : valid_state s ≡ true
+    unfolding valid_call
+    call-state = and_right (leb size 4294967295 && leb timer 1 && eqb (length h) 3402) (valid_state s) call-holds
+
+    pub call-room : length h ≡ 3402
+    unfolding valid_call
+    call-room =
+        eqb-true (length h) 3402
+        (and_right (leb size 4294967295 && leb timer 1) (eqb (length h) 3402)
+        (and_left (leb size 4294967295 && leb timer 1 && eqb (length h) 3402) (valid_state s) call-holds))
 
 -- ---- `settle`
 module _ (size timer : ℕ) (s h : List ℕ) (t : Bool) (e : t ≡ due_header size timer s) where
@@ -106,31 +140,31 @@ module _ (digest : List ℕ) (worker size timer : ℕ) (s h : List ℕ) where
 
 -- ---- `proposer_event`: the tests one after the other
 module _ (tag p : ℕ) (ps digest : List ℕ) (worker size timer : ℕ) (s h : List ℕ) where
-  call-no : valid_call size timer s h ≡ false → Left (event_after tag p ps digest worker size timer s h) (Err BadShape) s h
+  pub event-no : valid_call size timer s h ≡ false → Left (event_after tag p ps digest worker size timer s h) (Err BadShape) s h
   unfolding event_after
-  call-no e = rw (e, event_after) (record { answer = refl; state = refl; header = refl })
+  event-no e = rw (e, event_after) (record { answer = refl; state = refl; header = refl })
 
   pub event-pace : (valid_pace size timer ≡ true → false ≡ true) → Left (event_after tag p ps digest worker size timer s h) (Err BadShape) s h
   unfolding valid_call valid_pace
-  event-pace a = call-no (rw (from-no (valid_pace size timer) a))
+  event-pace a = event-no (rw (from-no (valid_pace size timer) a))
 
   module _ (a : valid_pace size timer ≡ true) where
     pub event-header : (length h ≡ 3402 → ⊥) → Left (event_after tag p ps digest worker size timer s h) (Err BadShape) s h
     unfolding valid_call valid_pace
-    event-header b = call-no (rw (a, ne_eqb _ _ b))
+    event-header b = event-no (rw (a, ne_eqb _ _ b))
 
     module _ (h₁ : List ℕ) (b : IsWholeChunk h h₁ 3402) where
       pub event-state : (length s ≡ 3366 → ⊥) → Left (event_after tag p ps digest worker size timer s h) (Err BadShape) s h₁
       unfolding valid_call valid_pace valid_state
-      event-state c = rw b.same (call-no (rw (a, eq-eqb _ _ b.long, ne_eqb _ _ c)))
+      event-state c = rw b.same (event-no (rw (a, eq-eqb _ _ b.long, ne_eqb _ _ c)))
 
       module _ (s₁ : List ℕ) (c : IsWholeChunk s s₁ 3366) (t : Bool) (e : t ≡ valid_state s₁) where
         call-is : t ≡ valid_call size timer s h
         unfolding valid_call valid_pace
         call-is = e ∙ rw (c.same, a, eq-eqb _ _ b.long)
 
-        pub event-no : not t ≡ true → Left (event_after tag p ps digest worker size timer s h) (Err BadShape) s₁ h₁
-        event-no f = rw (c.same, b.same) (call-no (sym call-is ∙ not-true t f))
+        pub event-invalid : not t ≡ true → Left (event_after tag p ps digest worker size timer s h) (Err BadShape) s₁ h₁
+        event-invalid f = rw (c.same, b.same) (event-no (sym call-is ∙ not-true t f))
 
         module _ (f : not t ≡ false) where
           event-yes : event_after tag p ps digest worker size timer s h ≡ by_tag tag p ps digest worker size timer s h

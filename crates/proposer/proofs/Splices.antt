@@ -4,11 +4,11 @@ use mathlib.Core.List.{List, [], ◌∷◌, ◌++◌, append_assoc}
 use Prim.Native.Nat.{ℕ, ◌+◌, ◌-◌, ◌≤◌, ◌<◌}
 use native.Mathlib.Nat.{add-zero}
 use native.Mathlib.Omega.{arith}
-use lib.ListN.{length, get_or, take, drop, length-append, take-append-drop}
+use lib.ListN.{length, get_or, set, take, drop, length-append, length-set, take-append-drop}
 use lib.Seq.{take_at, drop-append-add, length-take-le, drop-drop, take-add}
 use Rattle.std.specs.List.{copy_within}
 use Rattle.wire.specs.Bytes.{part, splice}
-use Rattle.wire.proofs.Laws.{length_part, length-splice, part_at, part-splice, part-splice-before, part-splice-after, part-first}
+use Rattle.wire.proofs.Laws.{part-cons, part_none, length_part, length-splice, part_at, part-splice, part-splice-before, part-splice-after, part-first, splice-one}
 
 pub splice-none : (xs : List ℕ) (a : ℕ) → a ≤ length xs → splice xs a [] ≡ xs
 unfolding splice
@@ -75,6 +75,43 @@ get_after xs a ys k h l = simp add-zero at (part_at (splice xs a ys) xs k 1 0 (p
 
 pub get_at : (xs : List ℕ) (a v : ℕ) → a < length xs → get_or (splice xs a (v ∷ [])) a 0 ≡ v
 get_at xs a v h = part-first (splice xs a (v ∷ [])) a v [] (part-splice xs a (v ∷ []) (omega arith) 1 refl)
+
+-- ---- the loop that copies to a later place, from the end: the last bytes are copied, those below to + k are as they were
+pub record Lifted (s₀ : List ℕ) (from to n : ℕ) (s : List ℕ) (k : ℕ) : Type 0 where
+  pub high : k ≤ n
+  pub same : length s ≡ length s₀
+  pub is : s ≡ splice s₀ (to + k) (part s₀ (from + k) (n - k))
+
+pub lifted-start : (s₀ : List ℕ) (from to n : ℕ) → from ≤ to → to + n ≤ length s₀ → Lifted s₀ from to n s₀ n
+lifted-start s₀ from to n h l =
+    let e : n - n ≡ 0 = omega arith in
+    record { high = omega arith; same = refl; is = sym (rw (e, part_none) (splice-none s₀ (to + n) l)) }
+
+module _ (s₀ : List ℕ) (from to n : ℕ) (s : List ℕ) (k : ℕ) (i : Lifted s₀ from to n s k) (h : from ≤ to) (f : to + n ≤ length s₀) where
+  pub lifted-done : k ≤ 0 → s ≡ splice s₀ to (part s₀ from n)
+  lifted-done l =
+      let e : k ≡ 0 = omega arith in
+      let m : n - 0 ≡ n = omega arith in
+      simp (e, add-zero, m) at i.is
+
+  pub lifted-next : 0 < k → Lifted s₀ from to n (set s (to + (k - 1)) (get_or s (from + (k - 1)) 0)) (k - 1)
+  lifted-next l =
+      let j : ℕ = k - 1 in
+      let v : ℕ = get_or s (from + j) 0 in
+      let r : List ℕ = part s₀ (from + k) (n - k) in
+      let lr : length r ≡ n - k = length_part s₀ (from + k) (n - k) (omega arith) in
+      let g : v ≡ get_or s₀ (from + j) 0 = ap (λ (z : List ℕ). get_or z (from + j) 0) i.is ∙ get-before s₀ (to + k) r (from + j) (omega arith) (omega arith) in
+      let c : part s₀ (from + j) (n - j) ≡ get_or s₀ (from + j) 0 ∷ r = part-cons s₀ (from + j) (n - j) (from + k) (n - k) (omega arith) (omega arith) (omega arith) in
+      let e1 : set s (to + j) v ≡ splice s (to + j) (v ∷ []) = splice-one s (to + j) v (omega (arith, i.same)) in
+      record {
+        high = omega arith;
+        same = simp length-set i.same;
+        is =
+            e1
+            ∙ ap (λ (z : List ℕ). splice z (to + j) (v ∷ [])) i.is
+            ∙ splice-join-back s₀ (to + j) (v ∷ []) r (to + k) (omega arith) (omega arith)
+            ∙ ap (λ (z : List ℕ). splice s₀ (to + j) z) (ap (λ (y : ℕ). y ∷ r) g ∙ sym c);
+      }
 
 -- bytes copied to another place of the same slice
 pub splice-moved : (xs : List ℕ) (from to n : ℕ) → from + n ≤ length xs → copy_within xs from (from + n) to ≡ splice xs to (part xs from n)

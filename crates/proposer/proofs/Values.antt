@@ -26,6 +26,9 @@ pub and_right : (a b : Bool) → (a && b) ≡ true → b ≡ true
 and_right true b e = e
 and_right false b e = absurd (true-not-false (sym e))
 
+pub and-false : (a b : Bool) → a ≡ false → (a && b) ≡ false
+and-false a b e = rw e
+
 pub from-no : (a : Bool) → (a ≡ true → false ≡ true) → a ≡ false
 from-no true h = sym (h refl)
 from-no false h = refl

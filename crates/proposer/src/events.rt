@@ -1,26 +1,35 @@
 // The proposer's events and their answers.
-ghost use Rattle.std.specs.Prelude.{◌≡◌, true};
+ghost use Rattle.std.specs.Prelude.{◌≡◌, true, length};
 ghost use Rattle.proposer.specs.State.{valid_state};
-ghost use Rattle.proposer.specs.Events.{Left, settled, parents_after, digest_after, event_after};
+ghost use Rattle.proposer.specs.Events.{Left, valid_call, settled, parents_after, digest_after, event_after};
 
 use crate::header::HEADER;
 use crate::pace::Pace;
 use crate::state::STATE;
 use refusal::Refusal;
 
+// Whether the inputs that every event has are in the domain.
+#[tactic(auto, unfolding(crate::specs::Events::valid_call))]
+pub fn is_call(header_size: u64, timer: u8, state: &[u8], header: &[u8]) -> bool
+    ensures { result ≡ valid_call header_size timer state.now header.now }
+{
+    header_size <= 4294967295
+        && timer <= 1
+        && header.len() == HEADER
+        && crate::state::is_state(state)
+}
+
 // Makes a header where one is due, and empties the state's lists.
-pub fn settle(
-    pace: Pace,
-    state: &mut [u8; STATE],
-    header: &mut [u8; HEADER],
-) -> Result<u32, Refusal>
-    requires { valid_state state.old ≡ true }
+pub fn settle(pace: Pace, state: &mut [u8], header: &mut [u8]) -> Result<u32, Refusal>
+    requires state_value { valid_state state.old ≡ true }
+    requires header_len { length header.old ≡ 3402 }
     ensures { Left (settled pace.header_size pace.timer state.old header.old) result state.new header.new }
 {
-    if !crate::state::is_due(pace, state) {
+    let bytes = crate::state::whole(state);
+    if !crate::state::is_due(pace, bytes) {
         return Ok(0);
     }
-    crate::header::fill_header(state, header);
+    crate::header::fill_header(bytes, header);
     crate::state::empty(state);
     Ok(1)
 }

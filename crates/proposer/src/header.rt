@@ -11,7 +11,8 @@ use crate::state::STATE;
 pub const HEADER: usize = 3402;
 
 // Zeros, then author and round.
-fn put_head(state: &[u8; STATE], header: &mut [u8; HEADER])
+fn put_head(state: &[u8; STATE], header: &mut [u8])
+    requires { length header.old ≡ 3402 }
     ensures { header.new ≡ splice (splice (zeros 3402) 32 (own_in state.now)) 64 (bytes 8 (round_in state.now)) }
 {
     crate::state::clear(header, 0, HEADER);
@@ -20,7 +21,8 @@ fn put_head(state: &[u8; STATE], header: &mut [u8; HEADER])
 }
 
 // The items of src in order into header from to, and how many there are then into the byte at count_at.
-fn put_list(header: &mut [u8; HEADER], count_at: usize, to: usize, size: usize, src: &[u8])
+fn put_list(header: &mut [u8], count_at: usize, to: usize, size: usize, src: &[u8])
+    requires header_len { length header.old ≡ 3402 }
     requires src_in_bounds { to + length src.now ≤ 3402 }
     requires le_size { 32 ≤ size }
     requires count_at_in_bounds { count_at < 3402 }
@@ -31,8 +33,9 @@ fn put_list(header: &mut [u8; HEADER], count_at: usize, to: usize, size: usize, 
 }
 
 // The header of a state: its id is left zero, for the host to fill.
-pub fn fill_header(state: &[u8; STATE], header: &mut [u8; HEADER])
-    requires { valid_state state.now ≡ true }
+pub fn fill_header(state: &[u8; STATE], header: &mut [u8])
+    requires state_value { valid_state state.now ≡ true }
+    requires header_len { length header.old ≡ 3402 }
     ensures { header.new ≡ header_made state.now }
 {
     put_head(state, header);

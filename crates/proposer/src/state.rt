@@ -64,6 +64,14 @@ pub fn is_state(state: &[u8]) -> bool
     waiting_count(state) <= 64
 }
 
+// A state's bytes as an array.
+pub(crate) fn whole(state: &[u8]) -> &[u8; STATE]
+    requires { length state.now ≡ 3366 }
+    ensures { result.now ≡ state.now }
+{
+    state.try_into().unwrap()
+}
+
 // Whether a header is due: parents are present, and the timer has run out or the payload is large enough.
 pub fn is_due(pace: Pace, state: &[u8; STATE]) -> bool
     ensures { result ≡ due_header pace.header_size pace.timer state.now }
@@ -95,7 +103,8 @@ pub fn clear(s: &mut [u8], at: usize, n: usize)
 }
 
 // The round after p, with n parents: zeros in all their places.
-pub fn next_round(state: &mut [u8; STATE], p: u64, n: usize)
+pub fn next_round(state: &mut [u8], p: u64, n: usize)
+    requires state_len { length state.old ≡ 3366 }
     requires p_bound { p ≤ 4294967294 }
     requires n_bound { n ≤ 32 }
     ensures { state.new ≡ next_round state.old p n }
@@ -106,7 +115,8 @@ pub fn next_round(state: &mut [u8; STATE], p: u64, n: usize)
 }
 
 // The round after p, with its parents in place of the old ones.
-pub fn advance(state: &mut [u8; STATE], p: u64, parents: &[u8])
+pub fn advance(state: &mut [u8], p: u64, parents: &[u8])
+    requires state_len { length state.old ≡ 3366 }
     requires p_bound { p ≤ 4294967294 }
     requires parents_len { length parents.now % 32 ≡ 0 }
     requires parents_len_bound { length parents.now / 32 ≤ 32 }
@@ -117,8 +127,9 @@ pub fn advance(state: &mut [u8; STATE], p: u64, parents: &[u8])
 }
 
 // A waiting digest more, at the end.
-pub fn add(state: &mut [u8; STATE], digest: &[u8; 32], worker: u32)
-    requires { waiting_count state.old < 64 }
+pub fn add(state: &mut [u8], digest: &[u8; 32], worker: u32)
+    requires state_len { length state.old ≡ 3366 }
+    requires state_bound { waiting_count state.old < 64 }
     ensures { state.new ≡ added state.old digest.now worker }
 {
     let n = waiting_count(state) as usize;
@@ -129,7 +140,8 @@ pub fn add(state: &mut [u8; STATE], digest: &[u8; 32], worker: u32)
 }
 
 // Parents and waiting digests emptied.
-pub fn empty(state: &mut [u8; STATE])
+pub fn empty(state: &mut [u8])
+    requires { length state.old ≡ 3366 }
     ensures { state.new ≡ emptied state.old }
 {
     clear(state, 36, 3330);

@@ -4,7 +4,7 @@ use mathlib.Core.Bool.{Bool, true, false, not}
 use mathlib.Core.List.{List, []}
 use Prim.Native.Nat.{ℕ, ◌+◌, ◌*◌, ◌/◌, ◌≤◌}
 use native.Mathlib.Omega.{arith}
-use lib.Dec.{ltb}
+use lib.Dec.{eqb, ltb}
 use lib.ListN.{length}
 use borrow.Author.Tests.{not-true, not-false}
 use Rattle.wire.specs.Bytes.{part, alike, splice}
@@ -52,12 +52,16 @@ module _ (g k digest : List ℕ) (f : Option ℕ) (e : f ≡ first_of (has_part 
     unfolding parent_of record_in
     parent-none q = rw (sym in-genesis ∙ none, sym d ∙ q, record_in)
 
+pub lacks-is : (gs ks : List (List ℕ)) (digest r : List ℕ) → r ≡ parent_of gs ks digest → eqb (length r) 0 ≡ lacks gs ks digest
+unfolding lacks
+lacks-is gs ks digest r e = rw e
+
 -- a parent is missing where the look-up answers none: a record that it answers has 68 bytes
 module _ (gs ks : List (List ℕ)) (digest : List ℕ) where
-  pub lacks-is : (f : Option (Bor (List ℕ))) (b : Bool) → IfSome f (λ r. r.now ≡ parent_of gs ks digest) → IfNone f (parent_of gs ks digest ≡ []) → IfSome f (λ r. length r.now ≡ 68) → is_some f ≡ not b → b ≡ lacks gs ks digest
+  pub lacks-told : (f : Option (Bor (List ℕ))) (b : Bool) → IfSome f (λ r. r.now ≡ parent_of gs ks digest) → IfNone f (parent_of gs ks digest ≡ []) → IfSome f (λ r. length r.now ≡ 68) → is_some f ≡ not b → b ≡ lacks gs ks digest
   unfolding lacks
-  lacks-is (Some r) b p n l q = not-true b (sym q) ∙ sym (rw (← p, l))
-  lacks-is None b p n l q = not-false b (sym q) ∙ sym (rw n)
+  lacks-told (Some r) b p n l q = not-true b (sym q) ∙ sym (rw (← p, l))
+  lacks-told None b p n l q = not-false b (sym q) ∙ sym (rw n)
 
 -- ---- the parents of a header, as items
 module _ (h : List ℕ) (n : ℕ) (s : header_shape h ≡ true) (e : n ≡ parent_count h) where
@@ -108,7 +112,7 @@ nothing : (out : List ℕ) → Picked [] out 0 out
 unfolding flat splice
 nothing out = record { count = refl; buffer = refl }
 
-author-long : (h a : List ℕ) → header_shape h ≡ true → a ≡ author_of h → length a ≡ 32
+pub author-long : (h a : List ℕ) → header_shape h ≡ true → a ≡ author_of h → length a ≡ 32
 unfolding author_of
 author-long h a s e = ap length e ∙ length_part h 32 32 (omega (arith, header-length h s))
 

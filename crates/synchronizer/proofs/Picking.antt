@@ -75,7 +75,7 @@ module _ (size : ℕ) (test : List ℕ → Bool) (xs : List ℕ) (at n : ℕ) (o
       record { count = s.count ∙ rw e; buffer = s.is ∙ rw e }
 
   module _ (l : i < n) where
-    picking-item : (r : List ℕ) → r ≡ item_in size xs at i → length r ≡ size
+    pub picking-item : (r : List ℕ) → r ≡ item_in size xs at i → length r ≡ size
     picking-item r e = ap length e ∙ item-length size xs at n s.fits i l
 
     pub picking-room : m * size + size ≤ length out

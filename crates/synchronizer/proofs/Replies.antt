@@ -1,6 +1,6 @@
 -- The laws of `specs/Answers.antt`. Assumes nothing.
 use mathlib.Core.Path.{◌≡◌, refl, sym, ap, ◌∙◌}
-use mathlib.Core.Bool.{Bool, true, false, not}
+use mathlib.Core.Bool.{Bool, true, false, not, ◌&&◌}
 use mathlib.Core.List.{List}
 use Prim.Native.Nat.{ℕ, ◌%◌, ◌≤◌, ◌<◌}
 use native.Mathlib.Omega.{arith}
@@ -26,6 +26,26 @@ use Rattle.std.specs.Int.{from_bool}
 use Rattle.std.specs.Prelude.{Result, Ok, Err}
 use Rattle.refusal.specs.declared.Refusal.{Refusal}
 use Rattle.refusal.specs.declared.Refusal.TheVariants.{BadCommittee, BadShape}
+
+-- ---- whether parents can be looked up, test by test
+module _ (ms g k h : List ℕ) (b : Bool) (e : b ≡ valid_genesis ms g) where
+  pub no-genesis : not b ≡ true → lookable ms g k h ≡ false
+  unfolding lookable
+  no-genesis q = rw (sym e ∙ not-true b q)
+
+  module _ (yes : not b ≡ false) (b' : Bool) (e' : b' ≡ shaped 68 k) where
+    pub no_table : not b' ≡ true → lookable ms g k h ≡ false
+    unfolding lookable
+    no_table q = rw (sym e ∙ not-false b yes, sym e' ∙ not-true b' q)
+
+    module _ (yes' : not b' ≡ false) (b'' : Bool) (e'' : b'' ≡ header_shape h) where
+      pub no_header : not b'' ≡ true → lookable ms g k h ≡ false
+      unfolding lookable
+      no_header q = rw (sym e ∙ not-false b yes, sym e' ∙ not-false b' yes', sym e'' ∙ not-true b'' q)
+
+      pub can-look : not b'' ≡ false → lookable ms g k h ≡ true
+      unfolding lookable
+      can-look q = rw (sym e ∙ not-false b yes, sym e' ∙ not-false b' yes', sym e'' ∙ not-false b'' q)
 
 -- ---- what parents are looked up with, test by test
 module _ (ms g k h : List ℕ) (b : Bool) (e : b ≡ valid_members ms) where
@@ -62,6 +82,9 @@ module _ (ms g k h : List ℕ) (b : Bool) (e : b ≡ valid_members ms) where
           unfolding lookable
           look-done u q eu =
               record { committee = valid; look = rw (sym e' ∙ not-false b' yes', ← et, s, ← eu, q); table = et; header = eu }
+
+pub first-no : (a x : Bool) → a ≡ false → a && x ≡ false
+first-no a x e = rw e
 
 -- ---- parents
 module _ (ms g k h out : List ℕ) where

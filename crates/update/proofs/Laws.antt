@@ -37,7 +37,7 @@ length-entry c h =
     omega arith
 
 module _ (t : List ℕ) (n i : ℕ) (s : held_shape n t ≡ true) (h : i < count_of t) where
-  digest-long : (d : List ℕ) → d ≡ (cert_at (held_of t) i).digest → length d ≡ 32
+  pub digest-long : (d : List ℕ) → d ≡ (cert_at (held_of t) i).digest → length d ≡ 32
   digest-long d e = ap length e ∙ digest-length t i (lawful-shape n t s) h
 
   module _ (list a b c d : List ℕ) (k o r : ℕ) (l : k * 37 + 37 ≤ length list) (eo : o ≡ (cert_at (held_of t) i).origin) (er : r ≡ (cert_at (held_of t) i).round) (ed : d ≡ (cert_at (held_of t) i).digest) where

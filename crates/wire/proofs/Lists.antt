@@ -1,15 +1,15 @@
--- The laws of `specs/Items.antt`: items of one size are a list, and loops over them. Assumes nothing.
+-- The laws of `specs/Items.antt`: items of one size are a list. Assumes nothing.
 use mathlib.Core.Path.{◌≡◌, refl, sym, ap, ◌∙◌}
 use mathlib.Core.Bool.{Bool, true, false}
 use mathlib.Core.List.{List, [], ◌∷◌, ◌++◌, append_assoc, append-nil}
 use Prim.Native.Nat.{ℕ, zero, suc, ◌+◌, ◌-◌, ◌*◌, ◌≤◌, ◌<◌}
 use native.Mathlib.Numerals.{add-one}
-use native.Mathlib.Nat.{zero-mul, suc-mul, add-mul, add-zero, sub-zero, mul-le-mul_right}
+use native.Mathlib.Nat.{zero-mul, suc-mul, add-mul, add-zero, zero-add, sub-zero, mul-le-mul_right}
 use native.Mathlib.Omega.{arith}
 use lib.ListN.{length, get_or, set, take, drop, length-take, length-drop, length-append, take-append-drop}
-use lib.Seq.{take_at, drop_at, take-append_seam, drop-append-add, drop-append_seam, length-take-le, drop-drop, take-suc}
+use lib.Seq.{take_at, drop_at, take-append_seam, drop-append-add, drop-append_seam, length-take-le, drop-drop, drop-cons, take-suc}
 use Rattle.wire.specs.Bytes.{part, splice}
-use Rattle.wire.specs.Items.{chunks, items, item_in, flat, keeps, first_of, all_of, keys}
+use Rattle.wire.specs.Items.{chunks, items, item_in, flat, keeps, first_of, sum_of, all_of, keys}
 use Rattle.std.specs.Prelude.{Option, Some, None}
 use Rattle.wire.proofs.Laws.{length_part, true-not-false}
 
@@ -145,6 +145,33 @@ module _ (size : ℕ) (xs : List ℕ) (at n : ℕ) (h : at + n * size ≤ length
   pub item-length : (i : ℕ) → i < n → length (item_in size xs at i) ≡ size
   unfolding item_in
   item-length i l = length_part xs (at + i * size) size (item-fits i l)
+
+-- ---- a search, a sum and a test of all, one at a time
+module _ (test : List ℕ → Bool) (rs : List (List ℕ)) (i i' : ℕ) (e : i' ≡ i + 1) (h : i < length rs) where
+  pub first-hit : test (get_or rs i []) ≡ true → first_of test (drop i rs) i ≡ Some i
+  unfolding first_of
+  first-hit q = rw (drop-cons rs i [] h, q, first_of)
+
+  pub first-miss : test (get_or rs i []) ≡ false → first_of test (drop i rs) i ≡ first_of test (drop i' rs) i'
+  unfolding first_of
+  first-miss q = rw (e, add-one, drop-cons rs i [] h, q, first_of)
+
+  pub all-on : test (get_or rs i []) ≡ true → all_of test (drop i rs) ≡ all_of test (drop i' rs)
+  unfolding all_of
+  all-on q = rw (e, add-one, drop-cons rs i [] h, q, all_of)
+
+  pub all-stop : test (get_or rs i []) ≡ false → all_of test (drop i rs) ≡ false
+  unfolding all_of
+  all-stop q = rw (drop-cons rs i [] h, q, all_of)
+
+pub sum-on : (f : List ℕ → ℕ) (rs : List (List ℕ)) (i i' : ℕ) → i' ≡ i + 1 → i < length rs → sum_of f (drop i rs) ≡ f (get_or rs i []) + sum_of f (drop i' rs)
+unfolding sum_of
+sum-on f rs i i' e h = rw (drop-cons rs i [] h, e, add-one)
+
+pub sum-append : (f : List ℕ → ℕ) (xs ys : List (List ℕ)) → sum_of f (xs ++ ys) ≡ sum_of f xs + sum_of f ys
+unfolding sum_of
+sum-append f [] ys = sym (zero-add _)
+sum-append f (x ∷ xs) ys = rw (sum-append f xs ys) (omega arith)
 
 -- ---- keys
 pub length-keys : (rs : List (List ℕ)) → length (keys rs) ≡ length rs

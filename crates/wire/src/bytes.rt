@@ -26,5 +26,13 @@ pub fn less32(a: &[u8], i: usize, b: &[u8], j: usize) -> bool
     requires j_in_bounds { j + 32 ≤ length b.now }
     ensures { result ≡ less (part a.now i 32) (part b.now j 32) }
 {
-    a[i..i + 32] < b[j..j + 32]
+    // Byte by byte: std's order of slices takes twice the time here.
+    for k in 0..32 {
+        let x = a[i + k];
+        let y = b[j + k];
+        if x != y {
+            return x < y;
+        }
+    }
+    false // equal: neither comes first
 }

@@ -2,12 +2,22 @@
 ghost use Rattle.std.specs.Prelude.{◌≡◌, ◌+◌, ◌≤◌, length, replicate};
 ghost use Rattle.wire.specs.Bytes.{part, splice};
 
+// Copies all of src to the front of dst. std's copy_from_slice is memmove, a name that the archive would ask for from outside.
+fn copy_front(dst: &mut [u8], src: &[u8])
+    requires { length src.now ≤ length dst.old }
+    ensures { dst.new ≡ splice dst.old 0 src.now }
+{
+    for k in 0..src.len() {
+        dst[k] = src[k];
+    }
+}
+
 // Copies all of src into dst from at.
 pub fn put_bytes(dst: &mut [u8], at: usize, src: &[u8])
     requires { at + length src.now ≤ length dst.old }
     ensures { dst.new ≡ splice dst.old at src.now }
 {
-    dst[at..at + src.len()].copy_from_slice(src);
+    copy_front(&mut dst[at..], src);
 }
 
 // Copies n bytes from a place to an earlier one.

@@ -5,8 +5,8 @@ use Rattle.checks.proofs.certificate.certificate_checks.Goals as goal
 pub invariant_of-header : goal.invariant_of-header
 invariant_of-header c = record { shape = search (rules, certificate-headed-by) }
 
-pub returns-in_err-header_checks : goal.returns-in_err-header_checks
-returns-in_err-header_checks c = search (rules, header_refused)
+pub returns-in_default : goal.returns-in_default
+returns-in_default c = search (rules, header_refused)
 
 pub returns : goal.returns
 returns c = search (rules, header-passed)

@@ -1,10 +1,10 @@
 use borrow.Author.Rules.{rules}
 use Rattle.held.proofs.Laws.{some-place, no-place, place-within}
-use Rattle.dag.proofs.Piling.{parent-out, parent-last, parent-open}
+use Rattle.dag.proofs.Piling.{parent-none, parent-last, parent-open}
 use Rattle.dag.proofs.pile.put_parent.Goals as goal
 
 pub returns-in_default : goal.returns-in_default
-returns-in_default c = search (parent-out, no-place)
+returns-in_default c = search (parent-none, no-place)
 
 pub put_new-requires : goal.put_new-requires
 put_new-requires c = search (rules, place-within)

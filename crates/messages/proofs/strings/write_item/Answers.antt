@@ -1,5 +1,5 @@
-use Rattle.messages.proofs.Writing.{item-written}
+use Rattle.messages.proofs.Writing.{whole-written}
 use Rattle.messages.proofs.strings.write_item.Goals as goal
 
 pub returns : goal.returns
-returns c = search item-written
+returns c = search whole-written

@@ -1,5 +1,5 @@
-use Rattle.messages.proofs.Writing.{parents-copied}
+use Rattle.messages.proofs.Writing.{parents-put}
 use Rattle.messages.proofs.strings.write_parents.Goals as goal
 
 pub returns : goal.returns
-returns c = search parents-copied
+returns c = search parents-put

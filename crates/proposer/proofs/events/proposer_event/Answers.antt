@@ -1,6 +1,6 @@
 use mathlib.Core.Path.{refl}
 use Rattle.std.proofs.lemmas.Result.{err_from_is_err_and}
-use Rattle.proposer.proofs.Outcomes.{event-pace, event-header, event-state, event-no, event-parents, event-digest, event-timer, event-other}
+use Rattle.proposer.proofs.Outcomes.{event-pace, event-header, event-state, event-invalid, event-parents, event-digest, event-timer, event-other}
 use Rattle.proposer.proofs.events.proposer_event.Goals as goal
 
 pub returns-in_err-pace : goal.returns-in_err-pace
@@ -24,7 +24,7 @@ returns-then-not-is_state c =
     let a = c.in_ok-pace.ensures.ok.0 refl in
     let b = c.in-Some.ensures.cases in
     let w = c.in-Some-as_mut_array.ensures.cases in
-    search event-no
+    search event-invalid
 
 pub returns-in-1 : goal.returns-in-1
 returns-in-1 c =

@@ -1,6 +1,6 @@
 use mathlib.Core.Path.{refl}
 use Rattle.std.proofs.lemmas.Result.{err_from_is_err_and}
-use Rattle.proposer.proofs.Beginning.{start-no, start-own, start-stranger, start-pace, start-state, start-header, start-genesis, start-few, start-valid, start-made}
+use Rattle.proposer.proofs.Beginning.{start-no, start-own, start-stranger, start-pace, start-no-state, start-no-header, start-genesis, start-records, start-valid, start-made}
 use Rattle.proposer.proofs.start.proposer_start.Goals as goal
 
 pub returns-then-not-valid_members : goal.returns-then-not-valid_members
@@ -25,7 +25,7 @@ returns-in_default-as_mut_array c =
     let o = c.in-Some.ensures.cases in
     let a = c.in_ok-pace.ensures.ok.0 refl in
     let w = c.in_default-as_mut_array.ensures.cases in
-    search start-state
+    search start-no-state
 
 pub returns-in_default-as_mut_array-2 : goal.returns-in_default-as_mut_array-2
 returns-in_default-as_mut_array-2 c =
@@ -33,7 +33,7 @@ returns-in_default-as_mut_array-2 c =
     let a = c.in_ok-pace.ensures.ok.0 refl in
     let s = c.in-Some-as_mut_array.ensures.cases in
     let w = c.in_default-as_mut_array-2.ensures.cases in
-    search start-header
+    search start-no-header
 
 pub returns-then-not-valid_genesis : goal.returns-then-not-valid_genesis
 returns-then-not-valid_genesis c =
@@ -49,7 +49,7 @@ start_state-requires c =
     let a = c.in_ok-pace.ensures.ok.0 refl in
     let s = c.in-Some-as_mut_array.ensures.cases in
     let h = c.in-Some-as_mut_array-2.ensures.cases in
-    search start-few
+    search start-records
 
 pub settle-requires : goal.settle-requires
 settle-requires c =

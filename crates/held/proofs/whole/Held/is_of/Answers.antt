@@ -1,11 +1,5 @@
-use Rattle.held.proofs.Laws.{place-fits, place-length, of-pair-at, lawful-shape}
+use Rattle.held.proofs.Laws.{lawful-shape}
 use Rattle.held.proofs.whole.Held.is_of.Goals as goal
 
-pub row-requires : goal.row-requires
-row-requires c = search (place-fits, lawful-shape)
-
-pub row_is_of-requires : goal.row_is_of-requires
-row_is_of-requires c = search (place-length, lawful-shape)
-
-pub returns : goal.returns
-returns c = search (of-pair-at, lawful-shape)
+pub is_of-requires : goal.is_of-requires
+is_of-requires c = record { table_value = search lawful-shape; i_bound = c.requires }

@@ -1,6 +1,9 @@
-use Rattle.leaders.proofs.Deciding.{kind-even, kind-early, kind-old, kind-absent, kind-empty, kind-weak, kind-alone, kind-whole, kind-hole}
-use Rattle.held.proofs.Laws.{no-place}
+use Rattle.leaders.proofs.Deciding.{kind-even, kind-early, kind-old, kind-none, kind-empty, kind-weak, kind-alone, kind-unbroken, kind-broken}
+use Rattle.held.proofs.Laws.{lawful-shape, no-place}
 use Rattle.leaders.proofs.view.View.decide.Goals as goal
+
+pub is_unbroken-requires : goal.is_unbroken-requires
+is_unbroken-requires c = search lawful-shape
 
 pub returns-then-round-ne1 : goal.returns-then-round-ne1
 returns-then-round-ne1 c = search kind-even
@@ -12,7 +15,7 @@ pub returns-then-round-top : goal.returns-then-round-top
 returns-then-round-top c = search kind-old
 
 pub returns-in_default : goal.returns-in_default
-returns-in_default c = search (kind-absent, no-place)
+returns-in_default c = search (kind-none, no-place)
 
 pub returns-then-not-has_round : goal.returns-then-not-has_round
 returns-then-not-has_round c =
@@ -38,7 +41,7 @@ returns-then-is_unbroken c =
     let hp = c.in-Some.ensures.within in
     let eq = rw c.in-Some-lowest.is at c.lowest_round-lowest.ensures.value in
     let hq = rw c.in-Some-lowest.is at c.lowest_round-lowest.ensures.floor in
-    search kind-whole
+    search kind-unbroken
 
 pub returns : goal.returns
 returns c =
@@ -46,4 +49,4 @@ returns c =
     let hp = c.in-Some.ensures.within in
     let eq = rw c.in-Some-lowest.is at c.lowest_round-lowest.ensures.value in
     let hq = rw c.in-Some-lowest.is at c.lowest_round-lowest.ensures.floor in
-    search kind-hole
+    search kind-broken
